@@ -1,0 +1,271 @@
+-- Laws of the four numbers of indicators, and of a frame's groups of digits.
+-- Assumes nothing.
+use mathlib.Core.Path.{_≡_, refl, sym, ap, _∙_, subst}
+use mathlib.Core.Bool.{Bool, true, false, cond, not, _&&_, _||_}
+use mathlib.Core.List.{List}
+use mathlib.Core.Logic.{_⊎_, inl, inr, ⊎-elim}
+use Prim.Native.Nat.{ℕ, _+_, _-_, _*_, _/_, _%_, _≤_, _<_}
+use native.Mathlib.Nat.{add-zero, mul-le-mul, mod-lt}
+use native.Mathlib.Omega.{arith}
+use borrow.Rule.Slice.PartMut.{putMid, midOf}
+use borrow.Author.Tests.{eqb-true, ltb-true, ne-eqb, lt-ltb, le-ltb}
+use lib.Dec.{eqb, ltb}
+use lib.ListN.{length, getD, take, drop, replicate, length-drop}
+use lib.Seq.{length-take-le, getD-take, getD-drop}
+use Rattle.run.specs.Digits.{dtx}
+use Rattle.run.specs.First.{firstBad, Every, atMost, isAt, likeFirst}
+use Rattle.run.specs.Table.{tab}
+use Rattle.run.proofs.First.{first-in-part, part-passes, first-in-last}
+use Rattle.run.proofs.Chain.{or-else-done, unless-done, each-done}
+use Rattle.run.proofs.Front.{Front, front-lent, front-part, front-all}
+use Rattle.run.proofs.Table.{tab-length, tab-at, equal-part}
+use Rattle.pich.specs.Rule.{isNp, width, frameOf, indicatorsIn, qOf}
+use Rattle.pich.specs.declared.Pi.{Pi}
+use Rattle.pich.specs.Outcome.{qVerdict, mapVerdict, stands, readHead, readVerdict}
+
+either : (a b : Bool) {X : Type 0} → (a || b) ≡ true → (a ≡ true → X) → (b ≡ true → X) → X
+either true b e f g = f refl
+either false b e f g = g e
+
+-- what holds at 18, 36, 72 and 144 holds at every Np
+pub at-each : (P : ℕ → Type 0) → P 18 → P 36 → P 72 → P 144 → (np : ℕ) → isNp np ≡ true → P np
+unfolding isNp
+at-each P a b c d np e =
+    either _ (eqb np 144) e
+    (λ f.
+    either _ (eqb np 72) f
+    (λ g. either (eqb np 18) (eqb np 36) g (λ h. rw (eqb-true np 18 h) a) (λ h. rw (eqb-true np 36 h) b))
+    (λ h. rw (eqb-true np 72 h) c))
+    (λ h. rw (eqb-true np 144 h) d)
+
+-- the groups lie within the first 288 digits, and fill them
+pub record Groups (np : ℕ) : Type 0 where
+  pub some : 0 < np
+  pub few : np ≤ 144
+  pub wide : 0 < width np
+  pub narrow : width np ≤ 16
+  pub whole : width np * np ≡ 288
+  pub inside : (q : ℕ) → q < np → width np * q + width np ≤ 288
+  pub next : (q : ℕ) → width np * q + width np ≡ width np * (q + 1)
+  pub group-of : (q i : ℕ) → i < width np → (width np * q + i) / width np ≡ q
+  pub in-a-group : (k : ℕ) → k < 288 → k / width np < np
+
+pub groups : (np : ℕ) → isNp np ≡ true → Groups np
+groups = at-each Groups (omega arith) (omega arith) (omega arith) (omega arith)
+
+pub np-named : (np : ℕ) → (np ≡ 18) ⊎ ((np ≡ 36) ⊎ ((np ≡ 72) ⊎ (np ≡ 144))) → true ≡ isNp np
+unfolding isNp
+np-named np = ⊎-elim (λ e. rw e) (⊎-elim (λ e. rw e) (⊎-elim (λ e. rw e) (λ e. rw e)))
+
+pub np-unnamed : (np : ℕ) → ((np ≡ 18) ⊎ ((np ≡ 36) ⊎ ((np ≡ 72) ⊎ (np ≡ 144))) → ⊥) → false ≡ isNp np
+unfolding isNp
+np-unnamed np h =
+    rw (ne-eqb np 18 (λ e. h (inl e)), ne-eqb np 36 (λ e. h (inr (inl e))), ne-eqb np 72 (λ e. h (inr (inr (inl e)))), ne-eqb np 144 (λ e. h (inr (inr (inr e)))))
+
+-- a product with a variable is no term of linear arithmetic: its bound
+pub scaled : (y np : ℕ) → np ≤ 144 → y % 144 * np ≤ 20736
+scaled y np h = mul-le-mul {n₁ = y % 144} {m₁ = np} {n₂ = 144} {m₂ = 144} (omega arith) h
+
+-- the digits of a frame: each group has its indicator's, and the tail is DTX
+module _ (np : ℕ) (indicators : List ℕ) where
+  pub frame-length : length (frameOf np indicators) ≡ 300
+  unfolding frameOf
+  frame-length = tab-length 300 _
+
+  pub digit-at : (k : ℕ) → k < 288 → getD (frameOf np indicators) k 0 ≡ getD indicators (k / width np) 0
+  unfolding frameOf
+  digit-at k h = tab-at 300 _ k 0 (omega arith) ∙ rw (lt-ltb k 288 h)
+
+  pub tail-at : (k : ℕ) → 288 ≤ k → k < 300 → getD (frameOf np indicators) k 0 ≡ dtx
+  unfolding frameOf
+  tail-at k h l = tab-at 300 _ k 0 l ∙ rw (le-ltb k 288 h)
+
+  pub filled-at : isNp np ≡ true → (q i : ℕ) → q < np → i < width np → getD (frameOf np indicators) (width np * q + i) 0 ≡ getD indicators q 0
+  filled-at ok q i h l =
+      let g = groups np ok in
+      let room = g .inside q h in
+      digit-at (width np * q + i) (omega arith) ∙ ap (λ (j : ℕ). getD indicators j 0) (g .group-of q i l)
+
+  -- the stretch of one indicator, and the tail, as the writers fill them
+  pub stretch : isNp np ≡ true → (q : ℕ) → q < np → replicate (width np) (getD indicators q 0) ≡ take (width np) (drop (width np * q) (frameOf np indicators))
+  stretch ok q h =
+      let room = groups np ok .inside q h in
+      let long = frame-length in
+      equal-part 0 (frameOf np indicators) (width np * q) (width np) (getD indicators q 0) (omega arith)
+      (λ j l. filled-at ok q j h l)
+
+  pub tail-part : replicate 12 dtx ≡ take 12 (drop 288 (frameOf np indicators))
+  tail-part =
+      let long = frame-length in
+      equal-part 0 (frameOf np indicators) 288 12 dtx (omega arith)
+      (λ j l. tail-at (288 + j) (omega arith) (omega arith))
+
+  -- the stretch of indicator q is lent from r on and comes back filled: one indicator more stands
+  pub one-more : isNp np ≡ true → (q r : ℕ) → q < np → r ≡ width np * q → (d₀ d ys : List ℕ) → length d₀ ≡ 300
+      → Front (frameOf np indicators) d₀ d (width np * q)
+      → ys ≡ replicate (length (midOf r (r + width np - r) d)) (getD indicators q 0)
+      → Front (frameOf np indicators) d₀ (putMid r (r + width np - r) d ys) (width np * (q + 1))
+  one-more ok q r h e d₀ d ys long f y =
+      let g = groups np ok in
+      let room = g .inside q h in
+      let w : r + width np - r ≡ width np = omega arith in
+      let lent : length (midOf r (r + width np - r) d) ≡ width np = front-lent r (r + width np) f (omega arith) ∙ w in
+      let filled : ys ≡ take (r + width np - r) (drop r (frameOf np indicators)) =
+      rw (y, lent, w, e) (stretch ok q h)
+      in
+      let at-r : Front (frameOf np indicators) d₀ d r = rw e f in
+      let next : r + width np ≡ width np * (q + 1) = ap (λ (n : ℕ). n + width np) e ∙ g .next q in
+      subst (λ (n : ℕ). Front (frameOf np indicators) d₀ (putMid r (r + width np - r) d ys) n) next (front-part (r + width np) at-r (omega arith) (omega arith) filled)
+
+  -- the tail is lent and comes back filled: the frame stands
+  pub tail-last : isNp np ≡ true → (d₀ d ys : List ℕ) → length d₀ ≡ 300
+      → Front (frameOf np indicators) d₀ d 288
+      → ys ≡ replicate (length (midOf 288 12 d)) dtx
+      → putMid 288 12 d ys ≡ frameOf np indicators
+  tail-last ok d₀ d ys long f y =
+      let lent : length (midOf 288 12 d) ≡ 12 = front-lent 288 300 f (omega arith) in
+      front-all (front-part 300 f (omega arith) (omega arith) (y ∙ rw lent tail-part)) (omega arith)
+
+-- the indicators of a frame
+module _ (np : ℕ) (frame : List ℕ) where
+  pub indicators-length : length (indicatorsIn np frame) ≡ np
+  unfolding indicatorsIn
+  indicators-length = tab-length np _
+
+  pub indicator-at : (q : ℕ) → q < np → getD (indicatorsIn np frame) q 0 ≡ getD frame (width np * q) 0
+  unfolding indicatorsIn
+  indicator-at q h = tab-at np _ q 0 h
+
+-- the reader's scan of a frame, group by group and then the tail
+module _ (np : ℕ) (ok : isNp np ≡ true) (frame : List ℕ) (long : length frame ≡ 300) where
+  -- the digits from r on, as they are lent
+  lent : (r w : ℕ) → r + w ≤ 300 → length (take (r + w - r) (drop r frame)) ≡ w
+  lent r w h =
+      let e : r + w - r ≡ w = omega arith in
+      let room : w ≤ length (drop r frame) = simp length-drop (omega arith) in
+      rw e (length-take-le w (drop r frame) room)
+
+  lent-at : (r w j : ℕ) → j < w → getD (take (r + w - r) (drop r frame)) j 0 ≡ getD frame (r + j) 0
+  lent-at r w j h =
+      let l : j < r + w - r = omega arith in
+      getD-take (r + w - r) (drop r frame) j 0 l ∙ getD-drop r frame j 0
+
+  in-group : (q r j : ℕ) → q < np → r ≡ width np * q → j < width np
+      → likeFirst (take (r + width np - r) (drop r frame)) j ≡ stands np frame (r + j)
+  unfolding stands
+  in-group q r j h e l =
+      let g = groups np ok in
+      let room = g .inside q h in
+      let inside : r + j < 288 = omega arith in
+      let some : 0 < width np = omega arith in
+      let group : width np * ((r + j) / width np) ≡ r = rw e (ap (λ (n : ℕ). width np * n) (g .group-of q j l)) in
+      let first : getD (take (r + width np - r) (drop r frame)) 0 0 ≡ getD frame r 0 = lent-at r (width np) 0 some ∙ ap (λ (n : ℕ). getD frame n 0) (add-zero r) in
+      rw (lt-ltb (r + j) 288 inside, lent-at r (width np) j l, first, group)
+
+  -- a group with a digit that may not stand there: its first is the frame's first
+  pub hit : (q r i : ℕ) → q < np → r ≡ width np * q → Every (stands np frame) (width np * q)
+      → i ≡ firstBad (likeFirst (take (r + width np - r) (drop r frame))) (length (take (r + width np - r) (drop r frame)))
+      → i < width np → r + i ≡ firstBad (stands np frame) 300
+  hit q r i h e before f l =
+      let room = groups np ok .inside q h in
+      let found = rw (lent r (width np) (omega arith)) at f in
+      let here : r + width np ≤ 300 = omega arith in
+      let below : firstBad (likeFirst (take (r + width np - r) (drop r frame))) (width np) < width np = rw found at l in
+      rw found
+      (first-in-part (stands np frame) (likeFirst (take (r + width np - r) (drop r frame))) r (width np) (rw e before)
+      (λ j m. in-group q r j h e m) 300 here below)
+
+  -- a group that may stand: all up to its end may
+  pub pass : (q r i : ℕ) → q < np → r ≡ width np * q → Every (stands np frame) (width np * q)
+      → i ≡ firstBad (likeFirst (take (r + width np - r) (drop r frame))) (length (take (r + width np - r) (drop r frame)))
+      → width np ≤ i → Every (stands np frame) (width np * (q + 1))
+  pass q r i h e before f l =
+      let g = groups np ok in
+      let room = g .inside q h in
+      let found = rw (lent r (width np) (omega arith)) at f in
+      let next : r + width np ≡ width np * (q + 1) = ap (λ (n : ℕ). n + width np) e ∙ g .next q in
+      subst (λ (n : ℕ). Every (stands np frame) n) next
+      (part-passes (stands np frame) (likeFirst (take (r + width np - r) (drop r frame))) r (width np) (rw e before)
+      (λ j m. in-group q r j h e m) (rw found at l))
+
+  in-tail : (j : ℕ) → j < 12 → isAt dtx (take 12 (drop 288 frame)) j ≡ stands np frame (288 + j)
+  unfolding stands
+  in-tail j h =
+      let outside : 288 ≤ 288 + j = omega arith in
+      rw (le-ltb (288 + j) 288 outside, lent-at 288 12 j h)
+
+  -- the groups may stand, and the scan of the tail ends the search
+  pub last : (i : ℕ) → Every (stands np frame) 288
+      → i ≡ firstBad (isAt dtx (take 12 (drop 288 frame))) (length (take 12 (drop 288 frame)))
+      → 288 + i ≡ firstBad (stands np frame) 300
+  last i before f =
+      let found = rw (lent 288 12 (omega arith)) at f in
+      rw found (first-in-last (stands np frame) (isAt dtx (take 12 (drop 288 frame))) 288 12 before in-tail)
+
+-- what is known where no check refused
+pub record Asked (np : ℕ) (pi : Pi) (sfn : ℕ) : Type 0 where
+  pub np-ok : isNp np ≡ true
+  pub pi-ok : pi .0 < np
+  pub sfn-ok : sfn < 4096
+
+pub asked : (np : ℕ) (pi : Pi) (sfn : ℕ) → qVerdict np pi sfn .number ≡ 0 → Asked np pi sfn
+unfolding qVerdict
+asked np pi sfn h =
+    let c1 = or-else-done _ _ h in
+    let c2 = or-else-done _ _ (c1 .rest) in
+    record {
+      np-ok = unless-done _ 8 0 (omega arith) (c1 .first);
+      pi-ok = ltb-true _ _ (unless-done _ 11 0 (omega arith) (c2 .first));
+      sfn-ok = ltb-true _ _ (unless-done _ 11 1 (omega arith) (c2 .rest));
+    }
+
+pub record Taken (np : ℕ) (indicators : List ℕ) (frameLength : ℕ) : Type 0 where
+  pub np-ok : isNp np ≡ true
+  pub indicators-ok : length indicators ≡ np
+  pub frame-ok : frameLength ≡ 300
+  pub digits-ok : Every (atMost 1 indicators) (length indicators)
+
+pub taken : (np : ℕ) (indicators : List ℕ) (frameLength : ℕ) → mapVerdict np indicators frameLength .number ≡ 0 → Taken np indicators frameLength
+unfolding mapVerdict
+taken np indicators frameLength h =
+    let c1 = or-else-done _ _ h in
+    let c2 = or-else-done _ _ (c1 .rest) in
+    let c3 = or-else-done _ _ (c2 .rest) in
+    record {
+      np-ok = unless-done _ 8 0 (omega arith) (c1 .first);
+      indicators-ok = eqb-true _ _ (unless-done _ 3 0 (omega arith) (c2 .first));
+      frame-ok = eqb-true _ _ (unless-done _ 3 1 (omega arith) (c3 .first));
+      digits-ok = each-done 0 4 _ _ (omega arith) (c3 .rest);
+    }
+
+pub record Headed (np : ℕ) (frame : List ℕ) (indicatorsLength : ℕ) : Type 0 where
+  pub np-ok : isNp np ≡ true
+  pub frame-ok : length frame ≡ 300
+  pub indicators-ok : indicatorsLength ≡ np
+  pub digits-ok : Every (atMost 2 frame) (length frame)
+
+pub headed : (np : ℕ) (frame : List ℕ) (indicatorsLength : ℕ) → readHead np frame indicatorsLength .number ≡ 0 → Headed np frame indicatorsLength
+unfolding readHead
+headed np frame indicatorsLength h =
+    let c1 = or-else-done _ _ h in
+    let c2 = or-else-done _ _ (c1 .rest) in
+    let c3 = or-else-done _ _ (c2 .rest) in
+    record {
+      np-ok = unless-done _ 8 0 (omega arith) (c1 .first);
+      frame-ok = eqb-true _ _ (unless-done _ 3 0 (omega arith) (c2 .first));
+      indicators-ok = eqb-true _ _ (unless-done _ 3 1 (omega arith) (c3 .first));
+      digits-ok = each-done 0 4 _ _ (omega arith) (c3 .rest);
+    }
+
+pub record Accepted (np : ℕ) (frame : List ℕ) (indicatorsLength : ℕ) : Type 0 where
+  pub head : Headed np frame indicatorsLength
+  pub stand : Every (stands np frame) 300
+
+pub accepted : (np : ℕ) (frame : List ℕ) (indicatorsLength : ℕ) → readVerdict np frame indicatorsLength .number ≡ 0 → Accepted np frame indicatorsLength
+unfolding readVerdict
+accepted np frame indicatorsLength h =
+    let c1 = or-else-done _ _ h in
+    record {
+      head = headed np frame indicatorsLength (c1 .first);
+      stand = each-done 0 9 _ _ (omega arith) (c1 .rest);
+    }

@@ -1,0 +1,98 @@
+-- Chains of checks: what is known where none refused, and when none does.
+-- Assumes nothing.
+use mathlib.Core.Path.{_≡_, refl, sym, ap, _∙_}
+use mathlib.Core.Bool.{Bool, true, false, cond}
+use Prim.Native.Nat.{ℕ, _+_, _≤_, _<_}
+use native.Mathlib.Nat.{zero-add}
+use native.Mathlib.Omega.{arith}
+use borrow.Author.Tests.{eqb-true, eqb-false, leb-true, leb-false, le-leb, eq-eqb, ne-eqb}
+use lib.Dec.{eqb, leb, lit<}
+use Rattle.run.specs.declared.Verdict.{Verdict}
+use Rattle.run.specs.First.{firstBad, Every}
+use Rattle.run.specs.Verdicts.{refused, done, orElse, unless, each, leaves, Narrow}
+use Rattle.run.proofs.First.{first-le, first-none, none-first}
+
+-- the chain is done: its first check is, and so are the others
+pub record Both (v w : Verdict) : Type 0 where
+  pub first : v .number ≡ 0
+  pub rest : w .number ≡ 0
+
+or-else-cases : (v w : Verdict) (b : Bool) → eqb (v .number) 0 ≡ b → cond b w v .number ≡ 0 → Both v w
+or-else-cases v w true e h = record { first = eqb-true _ _ e; rest = h }
+or-else-cases v w false e h = absurd (eqb-false _ _ e h)
+
+pub or-else-done : (v w : Verdict) → orElse v w .number ≡ 0 → Both v w
+unfolding orElse
+or-else-done v w h = or-else-cases v w (eqb (v .number) 0) refl h
+
+pub unless-done : (ok : Bool) (number place : ℕ) → 0 < number → unless ok number place .number ≡ 0 → ok ≡ true
+unfolding unless
+unless-done true number place l h = refl
+unless-done false number place l h = absurd (let z : ⊥ = omega arith in z)
+
+pub each-done : (base number : ℕ) (ok : ℕ → Bool) (n : ℕ) → 0 < number → each base number ok n .number ≡ 0 → Every ok n
+unfolding each
+each-done base number ok n l h = none-first ok n (leb-true _ _ (unless-done _ number _ l h))
+
+-- the other way: a check that passes is done, and the chain goes on
+pub or-else-pass : {v w : Verdict} → v ≡ done → w ≡ done → orElse v w ≡ done
+unfolding orElse
+or-else-pass p q = rw (p, q)
+
+pub unless-pass : {ok : Bool} (number place : ℕ) → ok ≡ true → unless ok number place ≡ done
+unfolding unless
+unless-pass number place h = rw h
+
+pub each-pass : (base number : ℕ) (ok : ℕ → Bool) (n : ℕ) → Every ok n → each base number ok n ≡ done
+unfolding each
+each-pass base number ok n all = unless-pass number _ (le-leb n (firstBad ok n) (let h = first-none ok n all in omega arith))
+
+-- where the first check's answer is known
+pub or-else-refused : (v w : Verdict) → (v .number ≡ 0 → ⊥) → orElse v w ≡ v
+unfolding orElse
+or-else-refused v w h = rw (ne-eqb (v .number) 0 h)
+
+pub or-else-next : (v w : Verdict) → v .number ≡ 0 → orElse v w ≡ w
+unfolding orElse
+or-else-next v w h = rw (eq-eqb (v .number) 0 h)
+
+-- a check that counts its places from 0, as a scan's answer gives it
+pub each-here : (number : ℕ) (ok : ℕ → Bool) (n : ℕ) → each 0 number ok n ≡ unless (leb n (firstBad ok n)) number (firstBad ok n)
+unfolding each
+each-here number ok n = ap (unless (leb n (firstBad ok n)) number) (zero-add (firstBad ok n))
+
+-- number and place fit their fields in each link of a chain
+pub or-else-narrow : (v w : Verdict) → Narrow v → (v .number ≡ 0 → Narrow w) → Narrow (orElse v w)
+unfolding orElse
+or-else-narrow v w p q = pick (eqb (v .number) 0) refl
+  where
+    pick : (b : Bool) → eqb (v .number) 0 ≡ b → Narrow (cond b w v)
+    pick true e = q (eqb-true _ _ e)
+    pick false e = p
+
+pub unless-narrow : (ok : Bool) (number place : ℕ) → number < 65536 → place < 4294967296 → Narrow (unless ok number place)
+unfolding unless
+unless-narrow true number place h k = record { number-fits = lit< tt; place-fits = lit< tt }
+unless-narrow false number place h k = record { number-fits = h; place-fits = k }
+
+pub each-narrow : (base number : ℕ) (ok : ℕ → Bool) (n : ℕ) → number < 65536 → base + n < 4294967296 → Narrow (each base number ok n)
+unfolding each
+each-narrow base number ok n h k = unless-narrow _ number _ h (let l = first-le ok n in omega arith)
+
+-- a check with a number of the table, and what comes after it where it passes
+pub check-narrow : (ok : Bool) (number place : ℕ) (w : Verdict) → 0 < number → number < 65536 → place < 4294967296 → (ok ≡ true → Narrow w) → Narrow (orElse (unless ok number place) w)
+check-narrow ok number place w some h k next =
+    or-else-narrow _ w (unless-narrow ok number place h k) (λ e. next (unless-done ok number place some e))
+
+-- what is left where the call is done, and where it is refused
+pub leaves-done : {A : Type 0} (v : Verdict) (new old : A) → v .number ≡ 0 → leaves v new old ≡ new
+unfolding leaves
+leaves-done v new old e = rw (eq-eqb (v .number) 0 e)
+
+pub leaves-refused : {A : Type 0} (v : Verdict) (new old : A) → (v .number ≡ 0 → ⊥) → leaves v new old ≡ old
+unfolding leaves
+leaves-refused v new old e = rw (ne-eqb (v .number) 0 e)
+
+-- two outcomes that equal one definition are equal: so a promise by equations allows one outcome
+pub one-outcome : {A : Type 0} {x y z : A} → x ≡ z → y ≡ z → x ≡ y
+one-outcome p q = p ∙ sym q

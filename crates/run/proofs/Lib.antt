@@ -1,0 +1,6 @@
+pub mod First
+pub mod Chain
+pub mod Front
+pub mod Over
+pub mod Table
+pub mod Fields

@@ -1,0 +1,35 @@
+-- Document 01, 'Numbers a call can return': 'Earlier checks win; within a check the lowest place wins.'
+-- Assumes nothing.
+use Prim.Native.Nat.{ℕ, _+_, _<_}
+use mathlib.Core.Bool.{Bool, cond}
+use lib.Dec.{eqb, leb}
+use Rattle.run.specs.declared.Verdict.{Verdict}
+use Rattle.run.specs.First.{firstBad}
+
+abbrev pub refused : ℕ → ℕ → Verdict
+refused number place = record { number = number; place = place }
+
+-- '0 means done'
+abbrev pub done : Verdict
+done = refused 0 0
+
+-- the first of two checks that refuses
+unfoldable pub orElse : Verdict → Verdict → Verdict
+orElse v w = cond (eqb (v .number) 0) w v
+
+-- refused with a number and a place where the test fails
+unfoldable pub unless : Bool → ℕ → ℕ → Verdict
+unless ok number place = cond ok done (refused number place)
+
+-- refused at the first of n places at which the test fails; places count from base
+unfoldable pub each : ℕ → ℕ → (ℕ → Bool) → ℕ → Verdict
+each base number ok n = unless (leb n (firstBad ok n)) number (base + firstBad ok n)
+
+-- what a lent run holds, or a value is, afterwards: the new where the call is done, the old where it is refused
+unfoldable pub leaves : {A : Type 0} → Verdict → A → A → A
+leaves v new old = cond (eqb (v .number) 0) new old
+
+-- number and place fit 16 and 32 bits
+pub record Narrow (v : Verdict) : Type 0 where
+  pub number-fits : v .number < 65536
+  pub place-fits : v .place < 4294967296

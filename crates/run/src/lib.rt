@@ -1,0 +1,37 @@
+// Runs of digits: verdicts and their order, scans, copies. No channel's rule stands here.
+ghost use mathlib.Core.Path.{_≡_};
+ghost use Rattle.run.specs.Verdicts.{orElse, unless};
+
+pub mod refusal;
+pub mod scan;
+pub mod write;
+
+// DTX as a digit: nothing is sent (document 01, 'Digits').
+pub const DTX: u8 = 2;
+
+// What a call answers: 0 and 0 where it is done, else the refusal's number and place.
+pub struct Verdict {
+    pub number: u8,
+    pub place: usize,
+}
+
+// The first of two checks that refuses.
+pub fn or_else(v: Verdict, w: Verdict) -> Verdict
+    ensures { λ r. ⌜ r ≡ orElse v w ⌝ }
+{
+    if v.number == 0 { w } else { v }
+}
+
+// Refused with this number and place where the test fails.
+pub fn unless(ok: bool, number: u8, place: usize) -> Verdict
+    ensures { λ r. ⌜ r ≡ unless ok number place ⌝ }
+{
+    if ok {
+        Verdict {
+            number: 0,
+            place: 0,
+        }
+    } else {
+        Verdict { number, place }
+    }
+}

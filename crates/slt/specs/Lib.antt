@@ -1,0 +1,3 @@
+pub mod Packed
+pub mod Outcome
+pub mod Exact

@@ -1,0 +1,55 @@
+/* A host that calls the mapper as a simulator would, and prints what it got. */
+#include <inttypes.h>
+#include <stdio.h>
+#include <string.h>
+
+#include "slt.h"
+
+static void print_answer(const char *call, uint64_t answer) {
+    printf("%s: number %u place %" PRIu32 " value %u\n", call, SLT_NUMBER(answer), SLT_PLACE(answer), SLT_VALUE(answer));
+}
+
+static void print_digits(const char *name, const uint8_t *digits, size_t n) {
+    printf("%s ", name);
+    for (size_t i = 0; i < n; i++) {
+        putchar(digits[i] == 2 ? '-' : '0' + digits[i]);
+    }
+    putchar('\n');
+}
+
+/* Which indicator a PI has, a frame with that indicator set, and the frame read back. */
+static int paging(void) {
+    uint8_t indicators[18] = {0};
+    uint8_t frame[300];
+    uint8_t back[18];
+
+    uint64_t q = slt_pich_q(18, 5, 1);
+    print_answer("slt_pich_q(18, 5, 1)", q);
+    if (SLT_NUMBER(q) != SLT_DONE) {
+        return 1;
+    }
+    indicators[SLT_VALUE(q)] = 1;
+
+    uint64_t mapped = slt_pich_map(18, indicators, sizeof indicators, frame, sizeof frame);
+    print_answer("slt_pich_map", mapped);
+    if (SLT_NUMBER(mapped) != SLT_DONE) {
+        return 1;
+    }
+    print_digits("frame", frame, sizeof frame);
+
+    uint64_t read = slt_pich_read(18, frame, sizeof frame, back, sizeof back);
+    print_answer("slt_pich_read", read);
+    if (SLT_NUMBER(read) != SLT_DONE || memcmp(indicators, back, sizeof back) != 0) {
+        return 1;
+    }
+
+    frame[288] = 0; /* a tail digit that is sent */
+    print_answer("slt_pich_read of a damaged tail", slt_pich_read(18, frame, sizeof frame, back, sizeof back));
+    print_answer("slt_pich_map with no indicators", slt_pich_map(18, NULL, 0, frame, sizeof frame));
+    print_answer("slt_pich_q(18, 5, 4096)", slt_pich_q(18, 5, 4096));
+    return 0;
+}
+
+int main(void) {
+    return paging();
+}

@@ -1,0 +1,70 @@
+//! What a call answers, and how the 64-bit answer is unpacked.
+
+use std::fmt;
+
+/// A refusal as the rules document speaks of it: a number 1 to 13 and a place.
+#[derive(Clone, Copy, Debug, PartialEq, Eq)]
+pub struct Refusal {
+    pub number: u16,
+    pub place: u32,
+}
+
+/// A refusal by number and place, in the form that ends a chain of checks.
+pub fn refuse<T>(number: u16, place: usize) -> Result<T, Refusal> {
+    let place = u32::try_from(place).expect("a place fits 32 bits");
+    Err(Refusal { number, place })
+}
+
+/// The number, place and value of one call.
+#[derive(Clone, Copy, Debug, PartialEq, Eq)]
+pub struct Answer {
+    pub number: u16,
+    pub place: u32,
+    pub value: u16,
+}
+
+impl Answer {
+    /// Number 0 means done; the place is then 0.
+    pub fn done(value: u16) -> Answer {
+        Answer { number: 0, place: 0, value }
+    }
+
+    /// The value beside a refusal is 0.
+    pub fn refused(refusal: Refusal) -> Answer {
+        Answer { number: refusal.number, place: refusal.place, value: 0 }
+    }
+
+    /// Bits 0 to 15 are the number, 16 to 47 the place, 48 to 63 the value.
+    pub fn unpack(packed: u64) -> Answer {
+        Answer {
+            number: (packed & 0xffff) as u16,
+            place: ((packed >> 16) & 0xffff_ffff) as u32,
+            value: (packed >> 48) as u16,
+        }
+    }
+
+    /// The answer of a call that hands back runs only: done with value 0, or the refusal.
+    pub fn of<T>(outcome: &Result<T, Refusal>) -> Answer {
+        match outcome {
+            Ok(_) => Answer::done(0),
+            Err(refusal) => Answer::refused(*refusal),
+        }
+    }
+}
+
+impl fmt::Display for Answer {
+    fn fmt(&self, out: &mut fmt::Formatter<'_>) -> fmt::Result {
+        write!(out, "number {} place {} value {}", self.number, self.place, self.value)
+    }
+}
+
+#[cfg(test)]
+mod tests {
+    use super::Answer;
+
+    #[test]
+    fn the_three_parts_stand_where_the_header_says() {
+        let answer = Answer::unpack(0x0007_1234_5678_000b);
+        assert_eq!(answer, Answer { number: 11, place: 0x1234_5678, value: 7 });
+    }
+}

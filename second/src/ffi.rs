@@ -1,0 +1,31 @@
+//! The library's calls. All `unsafe` of this program stands here.
+//!
+//! A lent buffer owns the elements behind its pointer and gives its true length, no two buffers overlap, and this
+//! program has one thread: that is all a caller owes.
+
+use crate::answer::Answer;
+use crate::lent::Lent;
+
+// PICH
+
+unsafe extern "C" {
+    fn slt_pich_q(np: usize, pi: usize, sfn: usize) -> u64;
+    fn slt_pich_map(np: usize, indicators: *const u8, n_indicators: usize, frame: *mut u8, n_frame: usize) -> u64;
+    fn slt_pich_read(np: usize, frame: *const u8, n_frame: usize, indicators: *mut u8, n_indicators: usize) -> u64;
+}
+
+pub fn pich_q(np: usize, pi: usize, sfn: usize) -> Answer {
+    Answer::unpack(unsafe { slt_pich_q(np, pi, sfn) })
+}
+
+pub fn pich_map(np: usize, indicators: &mut Lent<u8>, frame: &mut Lent<u8>) -> Answer {
+    Answer::unpack(unsafe {
+        slt_pich_map(np, indicators.pointer(), indicators.len(), frame.pointer(), frame.len())
+    })
+}
+
+pub fn pich_read(np: usize, frame: &mut Lent<u8>, indicators: &mut Lent<u8>) -> Answer {
+    Answer::unpack(unsafe {
+        slt_pich_read(np, frame.pointer(), frame.len(), indicators.pointer(), indicators.len())
+    })
+}

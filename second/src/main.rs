@@ -1,0 +1,41 @@
+//! The independent second program.
+//!
+//! Every rule is written here a second time, from the rules document alone (`rules/`), and every call of the
+//! library is made on many inputs and compared with it (`compare/`): the number, the place, the value, and every
+//! element of every lent run afterwards. The first difference is printed and ends the run with status 1.
+//!
+//! One channel is one file in `rules/` and one in `compare/`; it is run by one line of `CHANNELS` below.
+
+#![deny(warnings)]
+#![deny(unsafe_code)]
+// The document speaks of digits by their index, and so do the loops here.
+#![allow(clippy::needless_range_loop)]
+
+mod answer;
+mod compare;
+#[allow(unsafe_code)]
+mod ffi;
+mod judge;
+mod lent;
+mod random;
+mod rules;
+
+use judge::Judge;
+
+/// The name of a channel and what runs all of its comparisons.
+type Channel = (&'static str, fn(&mut Judge));
+
+const CHANNELS: &[Channel] = &[
+    ("pich", compare::pich::all),
+];
+
+fn main() {
+    let mut total = 0;
+    for (name, all) in CHANNELS {
+        let mut judge = Judge::new();
+        all(&mut judge);
+        println!("{name}: {} comparisons", judge.comparisons());
+        total += judge.comparisons();
+    }
+    println!("second: {total} comparisons, all equal");
+}
