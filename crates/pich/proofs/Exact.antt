@@ -14,6 +14,7 @@ use Rattle.run.specs.declared.Verdict.{Verdict}
 use Rattle.run.specs.Digits.{dtx}
 use Rattle.run.specs.First.{Every, atMost}
 use Rattle.run.specs.Verdicts.{done, leaves, Narrow}
+use Rattle.run.proofs.Bools.{and-left, and-right}
 use Rattle.run.proofs.Chain.{or-else-done, or-else-pass, unless-pass, each-pass, or-else-narrow, unless-narrow, check-narrow, each-narrow, leaves-done, leaves-refused, one-outcome, unless-done}
 use Rattle.pich.specs.declared.Pi.{Pi}
 use Rattle.pich.specs.declared.Paging.{Paging}
@@ -21,14 +22,6 @@ use Rattle.pich.specs.Rule.{isNp, width, frameOf, indicatorsIn, qOf}
 use Rattle.pich.specs.Outcome.{qVerdict, Q, mapVerdict, Map, stands, readHead, readVerdict, Read}
 use Rattle.pich.specs.Exact.{Gives, Exact, ReadExact, Filled, FrameFilled, QBelow, QOnce, MapOnce, ReadOnce, Packs, Marked}
 use Rattle.pich.proofs.Laws.{groups, frame-length, digit-at, tail-at, filled-at, indicators-length, indicator-at, Asked, asked, Taken, taken, Headed, Accepted, accepted}
-
-and-left : (a b : Bool) → (a && b) ≡ true → a ≡ true
-and-left true b e = refl
-and-left false b e = e
-
-and-right : (a b : Bool) → (a && b) ≡ true → b ≡ true
-and-right true b e = e
-and-right false b e = absurd (let z : _≡_ {A = ℕ} 0 1 = cc in omega arith)
 
 -- what `stands` says of a digit, on either side of 288
 module _ (np : ℕ) (frame : List ℕ) (k : ℕ) where

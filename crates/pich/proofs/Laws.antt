@@ -17,7 +17,7 @@ use Rattle.run.specs.First.{firstBad, Every, atMost, isAt, likeFirst}
 use Rattle.run.specs.Table.{tab}
 use Rattle.run.proofs.First.{first-in-part, part-passes, first-in-last}
 use Rattle.run.proofs.Chain.{or-else-done, unless-done, each-done}
-use Rattle.run.proofs.Front.{Front, front-lent, front-part, front-all}
+use Rattle.run.proofs.Front.{Front, front-fill, front-all}
 use Rattle.run.proofs.Table.{tab-length, tab-at, equal-part}
 use Rattle.pich.specs.Rule.{isNp, width, frameOf, indicatorsIn, qOf}
 use Rattle.pich.specs.declared.Pi.{Pi}
@@ -109,13 +109,13 @@ module _ (np : ℕ) (indicators : List ℕ) where
       let g = groups np ok in
       let room = g .inside q h in
       let w : r + width np - r ≡ width np = omega arith in
-      let lent : length (midOf r (r + width np - r) d) ≡ width np = front-lent r (r + width np) f (omega arith) ∙ w in
-      let filled : ys ≡ take (r + width np - r) (drop r (frameOf np indicators)) =
-      rw (y, lent, w, e) (stretch ok q h)
+      let filled : replicate (r + width np - r) (getD indicators q 0) ≡ take (r + width np - r) (drop r (frameOf np indicators)) =
+        rw (w, e) (stretch ok q h)
       in
       let at-r : Front (frameOf np indicators) d₀ d r = rw e f in
       let next : r + width np ≡ width np * (q + 1) = ap (λ (n : ℕ). n + width np) e ∙ g .next q in
-      subst (λ (n : ℕ). Front (frameOf np indicators) d₀ (putMid r (r + width np - r) d ys) n) next (front-part (r + width np) at-r (omega arith) (omega arith) filled)
+      subst (λ (n : ℕ). Front (frameOf np indicators) d₀ (putMid r (r + width np - r) d ys) n) next
+      (front-fill (r + width np) (getD indicators q 0) at-r (omega arith) (omega arith) y filled)
 
   -- the tail is lent and comes back filled: the frame stands
   pub tail-last : isNp np ≡ true → (d₀ d ys : List ℕ) → length d₀ ≡ 300
@@ -123,8 +123,7 @@ module _ (np : ℕ) (indicators : List ℕ) where
       → ys ≡ replicate (length (midOf 288 12 d)) dtx
       → putMid 288 12 d ys ≡ frameOf np indicators
   tail-last ok d₀ d ys long f y =
-      let lent : length (midOf 288 12 d) ≡ 12 = front-lent 288 300 f (omega arith) in
-      front-all (front-part 300 f (omega arith) (omega arith) (y ∙ rw lent tail-part)) (omega arith)
+      front-all (front-fill 300 dtx f (omega arith) (omega arith) y tail-part) (omega arith)
 
 -- the indicators of a frame
 module _ (np : ℕ) (frame : List ℕ) where

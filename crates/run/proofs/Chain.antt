@@ -47,6 +47,15 @@ pub each-pass : (base number : ℕ) (ok : ℕ → Bool) (n : ℕ) → Every ok n
 unfolding each
 each-pass base number ok n all = unless-pass number _ (le-leb n (firstBad ok n) (let h = first-none ok n all in omega arith))
 
+-- a chain in code, link by link
+pub or-else-is : {r v w : Verdict} {a b : Verdict} → r ≡ orElse v w → v ≡ a → w ≡ b → r ≡ orElse a b
+or-else-is e p q = e ∙ rw (p, q)
+
+-- a check by a scan, whose answer is found again in the run
+pub each-is : (base number : ℕ) (ok : ℕ → Bool) (n i : ℕ) (r : Verdict) → i ≡ firstBad ok n → r ≡ unless (leb n i) number (base + i) → r ≡ each base number ok n
+unfolding each
+each-is base number ok n i r e h = h ∙ rw e
+
 -- where the first check's answer is known
 pub or-else-refused : (v w : Verdict) → (v .number ≡ 0 → ⊥) → orElse v w ≡ v
 unfolding orElse

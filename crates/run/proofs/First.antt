@@ -7,11 +7,11 @@ use Prim.Native.Nat.{ℕ, zero, suc, _+_, _-_, _≤_, _<_, suc-le-suc}
 use native.Mathlib.Nat.{le-of-suc-le-suc, not-suc-le-zero}
 use native.Mathlib.Omega.{arith}
 use borrow.Author.Count.{below-none, below-more}
-use borrow.Author.Tests.{eqb-true, eq-eqb, leb-true, leb-false, ltb-true, ltb-false}
+use borrow.Author.Tests.{eqb-true, eq-eqb, le-leb, leb-true, leb-false, ltb-true, ltb-false}
 use lib.Dec.{leb, ltb}
 use lib.ListN.{length, getD}
 use lib.Seq.{ext-getD}
-use Rattle.run.specs.First.{firstBad, Every, agree}
+use Rattle.run.specs.First.{firstBad, Every, atMost, agree}
 
 cond-le : (b : Bool) (m n : ℕ) → m ≤ n → cond b (suc m) 0 ≤ suc n
 cond-le true m n h = omega arith
@@ -70,6 +70,10 @@ first-none ok n all = first-is ok n n (omega arith) all (λ h. absurd (let z : �
 pub none-first : (ok : ℕ → Bool) (n : ℕ) → n ≤ firstBad ok n → Every ok n
 none-first ok n h k l = first-below ok n k (omega arith)
 
+-- a test of n places that the checker computes
+pub every-by : (ok : ℕ → Bool) (n : ℕ) → firstBad ok n ≡ n → Every ok n
+every-by ok n e = none-first ok n (omega arith)
+
 -- what a scan keeps: every place that it has passed passes the test
 pub record Scanned (ok : ℕ → Bool) (n i : ℕ) : Type 0 where
   pub within : i ≤ n
@@ -88,6 +92,13 @@ module _ {ok : ℕ → Bool} {n : ℕ} where
 
   pub scan-end : {i : ℕ} → Scanned ok n i → n ≤ i → i ≡ firstBad ok n
   scan-end {i} inv h = sym (first-is ok n i (inv .within) (inv .passed) (λ l. absurd (let z : ⊥ = omega arith in z)))
+
+-- a bound on the digits passed, raised to one more
+pub raised : (s : List ℕ) (low high i : ℕ) → Every (atMost low s) i → (low ≤ high) × (getD s i 0 ≤ high) → Every (atMost high s) (i + 1)
+raised s low high i all h =
+    below-more (λ (k : ℕ). atMost high s k ≡ true) i
+    (λ k l. let m : getD s k 0 ≤ low = leb-true _ _ (all k l) in le-leb (getD s k 0) high (omega arith))
+    (le-leb _ _ (h .1))
 
 -- runs of one length that agree at every place are equal, and a run agrees with itself
 pub no-diff : (s t : List ℕ) → length s ≡ length t → Every (agree s t) (length s) → s ≡ t

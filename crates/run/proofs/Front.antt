@@ -6,9 +6,11 @@ use Prim.Native.Nat.{ℕ, zero, suc, _+_, _-_, _≤_, _<_}
 use native.Mathlib.Nat.{not-suc-le-zero, le-of-suc-le-suc}
 use native.Mathlib.Numerals.{add-one}
 use native.Mathlib.Omega.{arith}
-use lib.ListN.{length, getD, set, take, drop, take-append-drop, drop-of-length-le, length-append, length-take, length-drop}
+use lib.ListN.{length, getD, set, take, drop, replicate, take-append-drop, drop-of-length-le, length-append, length-take, length-drop}
 use lib.Seq.{take-at, drop-at, take-add, length-take-le}
 use borrow.Rule.Slice.PartMut.{putMid, midOf, post-is, mid-len}
+use Rattle.run.specs.Written.{over}
+use Rattle.run.proofs.Over.{over-part}
 
 module _ {A : Type 0} where
   store-next : (t d : List A) (i : ℕ) (z : A) → i < length t → i < length d
@@ -63,6 +65,21 @@ module _ {A : Type 0} where
   -- the part that is lent has as many entries as its bounds say
   pub front-lent : {t d₀ d : List A} {a : ℕ} (b e : ℕ) → Front t d₀ d a → e ≤ length d₀ → length (midOf b (e - b) d) ≡ e - b
   front-lent {t} {d₀} {d} b e f h = let l = front-length f in mid-len b e d (omega arith)
+
+  -- the part comes back filled with v
+  pub front-fill : {t d₀ d ys : List A} {a : ℕ} (e : ℕ) (v : A) → Front t d₀ d a → a ≤ e → e ≤ length d₀
+      → ys ≡ replicate (length (midOf a (e - a) d)) v → replicate (e - a) v ≡ take (e - a) (drop a t)
+      → Front t d₀ (putMid a (e - a) d ys) e
+  front-fill {t} {d₀} {d} {ys} {a} e v f h w y same =
+      front-part e f h w (y ∙ ap (λ (n : ℕ). replicate n v) (front-lent a e f w) ∙ same)
+
+  -- the part comes back with a run written over it that is long enough
+  pub front-copy : {t d₀ d ys : List A} {a : ℕ} (e : ℕ) (src : List A) → Front t d₀ d a → a ≤ e → e ≤ length d₀ → e - a ≤ length src
+      → ys ≡ over src (midOf a (e - a) d) → take (e - a) src ≡ take (e - a) (drop a t)
+      → Front t d₀ (putMid a (e - a) d ys) e
+  front-copy {t} {d₀} {d} {ys} {a} e src f h w long y same =
+      let n = front-lent a e f w in
+      front-part e f h w (y ∙ over-part src (midOf a (e - a) d) (rw n long) ∙ ap (λ (k : ℕ). take k src) n ∙ same)
 
   -- where what is left of t is what was there, all is t
   pub front-end : {t d₀ d : List A} {a : ℕ} → Front t d₀ d a → drop a t ≡ drop a d₀ → d ≡ t

@@ -1,3 +1,4 @@
+pub mod Bools
 pub mod First
 pub mod Chain
 pub mod Front

@@ -48,3 +48,8 @@ module _ {A : Type 0} (src dst : List A) where
       let h : length src ≤ length dst = omega arith in
       let k : length dst ≤ length src = omega arith in
       rw (take-all (length dst) src h, drop-of-length-le dst k, append-nil)
+
+  -- a run that is long enough fills the other
+  pub over-part : length dst ≤ length src → over src dst ≡ take (length dst) src
+  unfolding over
+  over-part h = rw (drop-of-length-le dst h, append-nil)

@@ -1,6 +1,7 @@
 -- Tabulated lists: their length and entries; a table's rule from one computed test.
 -- Assumes nothing.
 use mathlib.Core.Path.{_≡_, refl, sym, ap, _∙_}
+use mathlib.Core.Bool.{Bool, true, _&&_}
 use mathlib.Core.List.{List, [], _∷_}
 use Prim.Native.Nat.{ℕ, zero, suc, _+_, _≤_, _<_}
 use native.Mathlib.Nat.{not-suc-le-zero, le-of-suc-le-suc}
@@ -8,6 +9,7 @@ use native.Mathlib.Omega.{arith}
 use lib.ListN.{length, getD, take, drop, replicate, length-replicate, getD-replicate, length-drop}
 use lib.Seq.{ext-getD, getD-take, getD-drop, length-take-le}
 use Rattle.run.specs.Table.{tab}
+use Rattle.run.proofs.Bools.{and-left, and-right}
 
 module _ {A : Type 0} where
   pub tab-length : (n : ℕ) (f : ℕ → A) → length (tab n f) ≡ n
@@ -20,6 +22,10 @@ module _ {A : Type 0} where
   tab-at zero f k d h = absurd (not-suc-le-zero h)
   tab-at (suc n) f zero d h = refl
   tab-at (suc n) f (suc k) d h = tab-at n (λ (j : ℕ). f (suc j)) k d (le-of-suc-le-suc h)
+
+  -- a table's rule: one equation that the checker computes over the whole table gives the rule at each entry
+  pub table-rule : (xs : List A) (n : ℕ) (f : ℕ → A) → xs ≡ tab n f → (k : ℕ) (d : A) → k < n → getD xs k d ≡ f k
+  table-rule xs n f e k d h = ap (λ (l : List A). getD l k d) e ∙ tab-at n f k d h
 
   -- a list with the rule's entry at each of its n places is the rule's table
   pub tab-is : (d : A) (s : List A) (n : ℕ) (f : ℕ → A) → length s ≡ n → ((k : ℕ) → k < n → getD s k d ≡ f k) → s ≡ tab n f
@@ -35,3 +41,14 @@ module _ {A : Type 0} where
       (λ j l.
       let m : j < w = rw length-replicate at l in
       getD-replicate w j v d m ∙ sym (same j m) ∙ sym (getD-take w (drop a s) j d m ∙ getD-drop a s j d))
+
+-- a test that holds for each entry of a table, and for what stands past its end, holds wherever the table is read
+module _ {A : Type 0} where
+  abbrev pub all-of : (A → Bool) → List A → Bool
+  all-of ok [] = true
+  all-of ok (x ∷ xs) = ok x && all-of ok xs
+
+  pub table-test : (ok : A → Bool) (d : A) → ok d ≡ true → (xs : List A) → all-of ok xs ≡ true → (n : ℕ) → ok (getD xs n d) ≡ true
+  table-test ok d h [] t n = h
+  table-test ok d h (x ∷ xs) t zero = and-left (ok x) _ t
+  table-test ok d h (x ∷ xs) t (suc n) = table-test ok d h xs (and-right (ok x) _ t) n

@@ -2,7 +2,7 @@
 -- Assumes nothing.
 use Prim.Native.Nat.{ℕ, _+_}
 use mathlib.Core.List.{List, [], _∷_, _++_}
-use lib.ListN.{take, drop}
+use lib.ListN.{getD, take, drop}
 
 -- the digits of all fields
 unfoldable pub total : List ℕ → ℕ
@@ -18,3 +18,10 @@ cut (w ∷ ws) s = take w s ∷ cut ws (drop w s)
 unfoldable pub joined : {A : Type 0} → List (List A) → List A
 joined [] = []
 joined (f ∷ fs) = f ++ joined fs
+
+-- field k of a run, and where it begins
+unfoldable pub field : {A : Type 0} → ℕ → List ℕ → List A → List A
+field k ws s = getD (cut ws s) k []
+
+unfoldable pub start : ℕ → List ℕ → ℕ
+start k ws = total (take k ws)

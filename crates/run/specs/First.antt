@@ -25,6 +25,10 @@ atMost top s k = leb (getD s k 0) top
 abbrev pub isAt : ℕ → List ℕ → ℕ → Bool
 isAt v s k = eqb (getD s k 0) v
 
+-- the digit at place k is not v
+abbrev pub notAt : ℕ → List ℕ → ℕ → Bool
+notAt v s k = not (eqb (getD s k 0) v)
+
 -- the digit at place k is not DTX, and is the run's first digit
 abbrev pub likeFirst : List ℕ → ℕ → Bool
 likeFirst s k = not (eqb (getD s k 0) dtx) && eqb (getD s k 0) (getD s 0 0)

@@ -1,5 +1,8 @@
 // Runs of digits: verdicts and their order, scans, copies. No channel's rule stands here.
 ghost use mathlib.Core.Path.{_≡_};
+ghost use Prim.Native.Nat.{_+_};
+ghost use lib.Dec.{leb};
+ghost use lib.ListN.{length};
 ghost use Rattle.run.specs.Verdicts.{orElse, unless};
 
 pub mod refusal;
@@ -33,5 +36,21 @@ pub fn unless(ok: bool, number: u8, place: usize) -> Verdict
         }
     } else {
         Verdict { number, place }
+    }
+}
+
+// Refused at place i of the run, counted from `base`, where i is one of its places: what a scan's answer means.
+pub fn found(s: &[u8], i: usize, number: u8, base: u32) -> Verdict
+    ensures { λ r. ⌜ r ≡ unless (leb (length (now (s .entry))) i) number (base + i) ⌝ }
+{
+    if s.len() <= i {
+        return Verdict {
+            number: 0,
+            place: 0,
+        };
+    }
+    Verdict {
+        number,
+        place: base as usize + i,
     }
 }

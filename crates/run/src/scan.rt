@@ -3,12 +3,30 @@ use crate::DTX;
 ghost use mathlib.Core.Path.{_≡_};
 ghost use Prim.Native.Nat.{ℕ, min};
 ghost use lib.ListN.{length};
-ghost use Rattle.run.specs.First.{firstBad, atMost, isAt, likeFirst, agree};
+ghost use Rattle.run.specs.First.{firstBad, Every, atMost, isAt, notAt, likeFirst, agree};
+
+// A digit that none of the run is above. A loop that takes no early way out can go many digits at a time.
+fn highest(s: &[u8]) -> u8
+    ensures { λ r. ⌜ Every (atMost r (now (s .entry))) (length (now (s .entry))) ⌝ }
+{
+    let mut high = 0;
+    let mut i = 0;
+    while i < s.len() {
+        if high < s[i] {
+            high = s[i];
+        }
+        i += 1;
+    }
+    high
+}
 
 // The first place whose digit is above `top`.
 pub fn first_above(s: &[u8], top: u8) -> usize
     ensures { λ r. ⌜ r ≡ firstBad (atMost top (now (s .entry))) (length (now (s .entry))) ⌝ }
 {
+    if highest(s) <= top {
+        return s.len();
+    }
     let mut i = 0;
     while i < s.len() {
         if top < s[i] {
@@ -26,6 +44,20 @@ pub fn first_other(s: &[u8], v: u8) -> usize
     let mut i = 0;
     while i < s.len() {
         if s[i] != v {
+            return i;
+        }
+        i += 1;
+    }
+    i
+}
+
+// The first place whose digit is `v`.
+pub fn first_equal(s: &[u8], v: u8) -> usize
+    ensures { λ r. ⌜ r ≡ firstBad (notAt v (now (s .entry))) (length (now (s .entry))) ⌝ }
+{
+    let mut i = 0;
+    while i < s.len() {
+        if s[i] == v {
             return i;
         }
         i += 1;

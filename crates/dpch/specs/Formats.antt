@@ -1,0 +1,46 @@
+-- Document 01, 'DPCH slot'; TS 25.211, 5.3.2, table 11 (normal formats): the bits of each field.
+-- Assumes nothing.
+use Prim.Native.Nat.{ℕ}
+use mathlib.Core.Bool.{Bool}
+use mathlib.Core.List.{List, [], _∷_}
+use lib.ListN.{getD}
+use lib.Dec.{leb}
+use Rattle.dpch.specs.declared.Format.{Format}
+
+-- a row of the table, in its order: Data1, Data2, TPC, TFCI, Pilot, Slot
+abbrev pub row : ℕ → ℕ → ℕ → ℕ → ℕ → ℕ → Format
+row data1 data2 tpc tfci pilot slot =
+    record { data1 = data1; data2 = data2; tpc = tpc; tfci = tfci; pilot = pilot; slot = slot }
+
+unfoldable pub formats : List Format
+formats =
+    row 0 4 2 0 4 10
+    ∷ row 0 2 2 2 4 10
+    ∷ row 2 14 2 0 2 20
+    ∷ row 2 12 2 2 2 20
+    ∷ row 2 12 2 0 4 20
+    ∷ row 2 10 2 2 4 20
+    ∷ row 2 8 2 0 8 20
+    ∷ row 2 6 2 2 8 20
+    ∷ row 6 28 2 0 4 40
+    ∷ row 6 26 2 2 4 40
+    ∷ row 6 24 2 0 8 40
+    ∷ row 6 22 2 2 8 40
+    ∷ row 12 48 4 8 8 80
+    ∷ row 28 112 4 8 8 160
+    ∷ row 56 232 8 8 16 320
+    ∷ row 120 488 8 8 16 640
+    ∷ row 248 1000 8 8 16 1280
+    ∷ []
+
+-- the format of a number; a row of zeros where the table has none
+unfoldable pub formatOf : ℕ → Format
+formatOf n = getD formats n (row 0 0 0 0 0 0)
+
+-- the fields in the order in which they stand in the slot: Data1, TPC, TFCI, Data2, pilot
+abbrev pub widths : Format → List ℕ
+widths f = f .data1 ∷ f .tpc ∷ f .tfci ∷ f .data2 ∷ f .pilot ∷ []
+
+-- 'TFCI: all digits 0 or 1; in formats 12 to 16 also all DTX.'
+abbrev pub silenceAllowed : ℕ → Bool
+silenceAllowed format = leb 12 format

@@ -1,0 +1,70 @@
+// The downlink DPCH: slot formats and pilot bits. Document 01, 'DPCH slot'; TS 25.211, 5.3.2, tables 11 and 12.
+ghost use mathlib.Core.Path.{_≡_};
+ghost use Rattle.dpch.specs.Formats.{formatOf};
+ghost use Rattle.dpch.specs.Pilots.{pilotRow};
+
+// The bits of each field of a slot, and of the slot.
+pub struct Format {
+    pub data1: usize,
+    pub data2: usize,
+    pub tpc: usize,
+    pub tfci: usize,
+    pub pilot: usize,
+    pub slot: usize,
+}
+
+// The format of a number, a row of zeros where there is none. A match becomes a table in read-only memory.
+pub fn format_of(n: usize) -> Format
+    ensures { λ r. ⌜ r ≡ formatOf n ⌝ }
+{
+    match n {
+        0 => Format { data1: 0, data2: 4, tpc: 2, tfci: 0, pilot: 4, slot: 10 },
+        1 => Format { data1: 0, data2: 2, tpc: 2, tfci: 2, pilot: 4, slot: 10 },
+        2 => Format { data1: 2, data2: 14, tpc: 2, tfci: 0, pilot: 2, slot: 20 },
+        3 => Format { data1: 2, data2: 12, tpc: 2, tfci: 2, pilot: 2, slot: 20 },
+        4 => Format { data1: 2, data2: 12, tpc: 2, tfci: 0, pilot: 4, slot: 20 },
+        5 => Format { data1: 2, data2: 10, tpc: 2, tfci: 2, pilot: 4, slot: 20 },
+        6 => Format { data1: 2, data2: 8, tpc: 2, tfci: 0, pilot: 8, slot: 20 },
+        7 => Format { data1: 2, data2: 6, tpc: 2, tfci: 2, pilot: 8, slot: 20 },
+        8 => Format { data1: 6, data2: 28, tpc: 2, tfci: 0, pilot: 4, slot: 40 },
+        9 => Format { data1: 6, data2: 26, tpc: 2, tfci: 2, pilot: 4, slot: 40 },
+        10 => Format { data1: 6, data2: 24, tpc: 2, tfci: 0, pilot: 8, slot: 40 },
+        11 => Format { data1: 6, data2: 22, tpc: 2, tfci: 2, pilot: 8, slot: 40 },
+        12 => Format { data1: 12, data2: 48, tpc: 4, tfci: 8, pilot: 8, slot: 80 },
+        13 => Format { data1: 28, data2: 112, tpc: 4, tfci: 8, pilot: 8, slot: 160 },
+        14 => Format { data1: 56, data2: 232, tpc: 8, tfci: 8, pilot: 16, slot: 320 },
+        15 => Format { data1: 120, data2: 488, tpc: 8, tfci: 8, pilot: 16, slot: 640 },
+        16 => Format { data1: 248, data2: 1000, tpc: 8, tfci: 8, pilot: 16, slot: 1280 },
+        _ => Format { data1: 0, data2: 0, tpc: 0, tfci: 0, pilot: 0, slot: 0 },
+    }
+}
+
+// The pilot bits, one row per slot.
+const PILOT: [[u8; 16]; 15] = [
+    [1, 1, 1, 1, 1, 1, 1, 0, 1, 1, 1, 1, 1, 1, 1, 0],
+    [1, 1, 0, 0, 1, 1, 1, 0, 1, 1, 1, 1, 1, 1, 0, 0],
+    [1, 1, 0, 1, 1, 1, 0, 1, 1, 1, 1, 0, 1, 1, 0, 0],
+    [1, 1, 0, 0, 1, 1, 0, 0, 1, 1, 0, 1, 1, 1, 1, 0],
+    [1, 1, 1, 0, 1, 1, 0, 1, 1, 1, 1, 1, 1, 1, 1, 1],
+    [1, 1, 1, 1, 1, 1, 1, 0, 1, 1, 0, 1, 1, 1, 0, 1],
+    [1, 1, 1, 1, 1, 1, 0, 0, 1, 1, 1, 0, 1, 1, 1, 1],
+    [1, 1, 1, 0, 1, 1, 0, 0, 1, 1, 1, 0, 1, 1, 0, 0],
+    [1, 1, 0, 1, 1, 1, 1, 0, 1, 1, 0, 0, 1, 1, 1, 1],
+    [1, 1, 1, 1, 1, 1, 1, 1, 1, 1, 0, 0, 1, 1, 1, 1],
+    [1, 1, 0, 1, 1, 1, 0, 1, 1, 1, 1, 1, 1, 1, 1, 0],
+    [1, 1, 1, 0, 1, 1, 1, 1, 1, 1, 0, 0, 1, 1, 1, 0],
+    [1, 1, 1, 0, 1, 1, 0, 0, 1, 1, 0, 1, 1, 1, 0, 1],
+    [1, 1, 0, 0, 1, 1, 1, 1, 1, 1, 0, 0, 1, 1, 0, 0],
+    [1, 1, 0, 0, 1, 1, 1, 1, 1, 1, 1, 0, 1, 1, 0, 1],
+];
+
+// The pilot bits of a slot; past the table a row that no slot has.
+pub fn pilot_row(slot: usize) -> [u8; 16]
+    ensures { λ r. ⌜ r ≡ pilotRow slot ⌝ }
+{
+    if slot < 15 {
+        PILOT[slot]
+    } else {
+        [1, 1, 0, 0, 1, 1, 0, 0, 1, 1, 0, 0, 1, 1, 0, 0]
+    }
+}

@@ -1,0 +1,136 @@
+-- What is known of a slot's numbers, lengths and digits where no check refuses them.
+-- Assumes nothing.
+use mathlib.Core.Path.{_≡_}
+use mathlib.Core.List.{List}
+use Prim.Native.Nat.{ℕ, _≤_}
+use native.Mathlib.Omega.{arith}
+use borrow.Author.Tests.{eqb-true, leb-true}
+use lib.ListN.{length}
+use Rattle.run.specs.First.{Every, atMost, likeFirst, agree}
+use Rattle.run.proofs.Chain.{or-else-done, unless-done, each-done}
+use Rattle.dpch.specs.declared.Format.{Format}
+use Rattle.dpch.specs.Formats.{formatOf, silenceAllowed}
+use Rattle.dpch.specs.Pilots.{pilotOf}
+use Rattle.slot.specs.Rule.{tpcIn, tfciIn, pilotIn, tfciStands}
+use Rattle.slot.specs.Outcome.{mapHead, fieldsVerdict, mapVerdict, readHead, digitsVerdict, readVerdict}
+use Rattle.slot.specs.Ready.{Ready}
+use Rattle.slot.proofs.Laws.{sound-format}
+
+-- numbers and lengths
+pub record Headed (format slot dataLength tfciLength slotLength : ℕ) : Type 0 where
+  pub format-ok : format ≤ 16
+  pub slot-ok : slot ≤ 14
+  pub ready : Ready (formatOf format) dataLength tfciLength slotLength
+
+pub map-headed : (format slot dataLength tfciLength outLength : ℕ) → mapHead format slot dataLength tfciLength outLength .number ≡ 0
+    → Headed format slot dataLength tfciLength outLength
+unfolding mapHead
+map-headed format slot dataLength tfciLength outLength h =
+    let c1 = or-else-done _ _ h in
+    let c2 = or-else-done _ _ (c1 .rest) in
+    let c3 = or-else-done _ _ (c2 .rest) in
+    let c4 = or-else-done _ _ (c3 .rest) in
+    record {
+      format-ok = leb-true _ _ (unless-done _ 1 0 (omega arith) (c1 .first));
+      slot-ok = leb-true _ _ (unless-done _ 2 0 (omega arith) (c2 .first));
+      ready = record {
+        sound = sound-format format;
+        data-ok = eqb-true _ _ (unless-done _ 3 0 (omega arith) (c3 .first));
+        tfci-ok = eqb-true _ _ (unless-done _ 3 1 (omega arith) (c4 .first));
+        slot-ok = eqb-true _ _ (unless-done _ 3 2 (omega arith) (c4 .rest))
+      }
+    }
+
+pub read-headed : (format slot slotLength dataLength tfciLength : ℕ) → readHead format slot slotLength dataLength tfciLength .number ≡ 0
+    → Headed format slot dataLength tfciLength slotLength
+unfolding readHead
+read-headed format slot slotLength dataLength tfciLength h =
+    let c1 = or-else-done _ _ h in
+    let c2 = or-else-done _ _ (c1 .rest) in
+    let c3 = or-else-done _ _ (c2 .rest) in
+    let c4 = or-else-done _ _ (c3 .rest) in
+    record {
+      format-ok = leb-true _ _ (unless-done _ 1 0 (omega arith) (c1 .first));
+      slot-ok = leb-true _ _ (unless-done _ 2 0 (omega arith) (c2 .first));
+      ready = record {
+        sound = sound-format format;
+        data-ok = eqb-true _ _ (unless-done _ 3 1 (omega arith) (c4 .first));
+        tfci-ok = eqb-true _ _ (unless-done _ 3 2 (omega arith) (c4 .rest));
+        slot-ok = eqb-true _ _ (unless-done _ 3 0 (omega arith) (c3 .first))
+      }
+    }
+
+-- command, TFCI and data
+pub record FieldsOk (format tpc : ℕ) (d tfci : List ℕ) : Type 0 where
+  pub tpc-ok : tpc ≤ 1
+  pub tfci-digits : Every (atMost 2 tfci) (length tfci)
+  pub tfci-kinds : Every (tfciStands (silenceAllowed format) tfci) (length tfci)
+  pub data-digits : Every (atMost 2 d) (length d)
+
+pub fields-ok : (format tpc : ℕ) (d tfci : List ℕ) (tpcPlace tfciBase dataBase : ℕ) → fieldsVerdict format tpc d tfci tpcPlace tfciBase dataBase .number ≡ 0
+    → FieldsOk format tpc d tfci
+unfolding fieldsVerdict
+fields-ok format tpc d tfci tpcPlace tfciBase dataBase h =
+    let c1 = or-else-done _ _ h in
+    let c2 = or-else-done _ _ (c1 .rest) in
+    let c3 = or-else-done _ _ (c2 .rest) in
+    record {
+      tpc-ok = leb-true _ _ (unless-done _ 5 tpcPlace (omega arith) (c1 .first));
+      tfci-digits = each-done tfciBase 4 _ _ (omega arith) (c2 .first);
+      tfci-kinds = each-done tfciBase 6 _ _ (omega arith) (c3 .first);
+      data-digits = each-done dataBase 4 _ _ (omega arith) (c3 .rest)
+    }
+
+-- the digits of a slot
+pub record DigitsOk (format : ℕ) (f : Format) (slot : ℕ) (xs : List ℕ) : Type 0 where
+  pub digits : Every (atMost 2 xs) (length xs)
+  pub alike : Every (likeFirst (tpcIn f xs)) (length (tpcIn f xs))
+  pub kinds : Every (tfciStands (silenceAllowed format) (tfciIn f xs)) (length (tfciIn f xs))
+  pub pilot : Every (agree (pilotIn f xs) (pilotOf (f .pilot) slot)) (length (pilotIn f xs))
+
+pub digits-ok : (format : ℕ) (f : Format) (slot : ℕ) (xs : List ℕ) (base : ℕ) → digitsVerdict format f slot xs base .number ≡ 0 → DigitsOk format f slot xs
+unfolding digitsVerdict
+digits-ok format f slot xs base h =
+    let c1 = or-else-done _ _ h in
+    let c2 = or-else-done _ _ (c1 .rest) in
+    let c3 = or-else-done _ _ (c2 .rest) in
+    record {
+      digits = each-done base 4 _ _ (omega arith) (c1 .first);
+      alike = each-done _ 5 _ _ (omega arith) (c2 .first);
+      kinds = each-done _ 6 _ _ (omega arith) (c3 .first);
+      pilot = each-done _ 7 _ _ (omega arith) (c3 .rest)
+    }
+
+-- fields that map takes
+pub record Mapped (format slot tpc : ℕ) (d tfci : List ℕ) (outLength : ℕ) : Type 0 where
+  pub head-done : mapHead format slot (length d) (length tfci) outLength .number ≡ 0
+  pub head : Headed format slot (length d) (length tfci) outLength
+  pub fields : FieldsOk format tpc d tfci
+
+pub mapped : (format slot tpc : ℕ) (d tfci : List ℕ) (outLength : ℕ) → mapVerdict format slot tpc d tfci outLength .number ≡ 0
+    → Mapped format slot tpc d tfci outLength
+unfolding mapVerdict
+mapped format slot tpc d tfci outLength h =
+    let c = or-else-done _ _ h in
+    record {
+      head-done = c .first;
+      head = map-headed format slot (length d) (length tfci) outLength (c .first);
+      fields = fields-ok format tpc d tfci 0 0 0 (c .rest)
+    }
+
+-- a slot that read accepts
+pub record Accepted (format slot : ℕ) (xs : List ℕ) (dataLength tfciLength : ℕ) : Type 0 where
+  pub head-done : readHead format slot (length xs) dataLength tfciLength .number ≡ 0
+  pub head : Headed format slot dataLength tfciLength (length xs)
+  pub digits : DigitsOk format (formatOf format) slot xs
+
+pub accepted : (format slot : ℕ) (xs : List ℕ) (dataLength tfciLength : ℕ) → readVerdict format slot xs dataLength tfciLength .number ≡ 0
+    → Accepted format slot xs dataLength tfciLength
+unfolding readVerdict
+accepted format slot xs dataLength tfciLength h =
+    let c = or-else-done _ _ h in
+    record {
+      head-done = c .first;
+      head = read-headed format slot (length xs) dataLength tfciLength (c .first);
+      digits = digits-ok format (formatOf format) slot xs 0 (c .rest)
+    }

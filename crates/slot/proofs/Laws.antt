@@ -1,0 +1,286 @@
+-- The fields of a slot: where they begin, how long they are, and a slot written or cut field by field.
+-- Assumes nothing.
+use mathlib.Core.Path.{_≡_, refl, sym, ap, _∙_}
+use mathlib.Core.Bool.{Bool, true, false, not, _&&_, _||_, Bool·beq}
+use mathlib.Core.List.{List, [], _∷_, _++_, map}
+use Prim.Native.Nat.{ℕ, _+_, _-_, _≤_, _<_, min}
+use native.Mathlib.Nat.{not-suc-le-zero, add-zero}
+use native.Mathlib.Omega.{arith}
+use borrow.Rule.Slice.PartMut.{putMid, midOf}
+use lib.ListN.{length, getD, take, drop, replicate, length-append, length-drop, length-replicate}
+use lib.Seq.{length-take-le, take-all, take-at, drop-at, getD-take}
+use lib.Dec.{eqb, leb, lit<}
+use borrow.Author.Tests.{eq-eqb, ne-eqb}
+use Rattle.run.specs.declared.Verdict.{Verdict}
+use Rattle.run.specs.Digits.{dtx}
+use Rattle.run.specs.First.{firstBad, agree, isAt, notAt}
+use Rattle.run.specs.Verdicts.{unless, each}
+use Rattle.run.specs.Fields.{total, cut, joined, field, start}
+use Rattle.run.specs.Written.{over}
+use Rattle.run.proofs.First.{first-is, first-same}
+use Rattle.run.proofs.Chain.{each-is, or-else-next, unless-pass}
+use Rattle.run.proofs.Fields.{joined-length, cut-joined, field-is, field-lent, field-joined, field-length, field-at}
+use Rattle.run.proofs.Over.{over-whole}
+use Rattle.run.proofs.Front.{Front, front-none, front-fill, front-copy, front-part, front-lent, front-all}
+use Rattle.dpch.specs.declared.Format.{Format}
+use Rattle.dpch.specs.Formats.{formatOf, widths}
+use Rattle.dpch.specs.Pilots.{pilotSource, pilotOf}
+use Rattle.dpch.proofs.Exact.{fields-fill, format-sizes, format-pilots}
+use Rattle.slot.specs.Rule.{dataSize, fieldsOf, slotOf, tfciIn, pilotIn, dataIn, commandIn, tfciStands}
+use Rattle.slot.specs.Outcome.{digitsVerdict, partVerdict}
+use Rattle.slot.specs.Ready.{PilotCut, Sound, Whole, Ready}
+
+-- every row of the table is sound
+pub sound-format : (format : ℕ) → Sound (formatOf format)
+sound-format format =
+    record {
+      fills = fields-fill format;
+      short = format-sizes format .short;
+      pilot = λ slot. record { cut-from = format-pilots format slot .cut-from; enough = format-pilots format slot .enough }
+    }
+
+module _ (f : Format) where
+  -- where the fields begin
+  pub start-data1 : 0 ≡ start 0 (widths f)
+  unfolding start total
+  start-data1 = refl
+
+  pub start-tpc : start 1 (widths f) ≡ f .data1
+  unfolding start total
+  start-tpc = omega arith
+
+  pub start-tfci : start 2 (widths f) ≡ f .data1 + f .tpc
+  unfolding start total
+  start-tfci = omega arith
+
+  pub start-data2 : start 3 (widths f) ≡ f .data1 + f .tpc + f .tfci
+  unfolding start total
+  start-data2 = omega arith
+
+  pub start-pilot : start 4 (widths f) ≡ f .data1 + f .tpc + f .tfci + f .data2
+  unfolding start total
+  start-pilot = omega arith
+
+  pub sum : Sound f → f .data1 + f .tpc + f .tfci + f .data2 + f .pilot ≡ f .slot
+  unfolding total
+  sum s = let h = s .fills in omega arith
+
+-- a slot's fields have the widths of the table
+module _ (f : Format) (s : Sound f) (slot tpc : ℕ) (d tfci : List ℕ) (data-long : length d ≡ dataSize f) (tfci-long : length tfci ≡ f .tfci) where
+  pilot-long : length (pilotOf (f .pilot) slot) ≡ f .pilot
+  pilot-long = ap length (s .pilot slot .cut-from) ∙ length-take-le (f .pilot) (pilotSource (f .pilot) slot) (s .pilot slot .enough)
+
+  pub fields-widths : map length (fieldsOf f slot tpc d tfci) ≡ widths f
+  unfolding fieldsOf
+  fields-widths =
+      let p : length (take (f .data1) d) ≡ f .data1 = length-take-le (f .data1) d (omega arith) in
+      let q : length (drop (f .data1) d) ≡ f .data2 = length-drop (f .data1) d ∙ omega arith in
+      rw (p, length-replicate (f .tpc) tpc, tfci-long, q, pilot-long)
+
+  pub field-of : (k : ℕ) → field k (widths f) (slotOf f slot tpc d tfci) ≡ getD (fieldsOf f slot tpc d tfci) k []
+  unfolding slotOf
+  field-of k = field-joined k (widths f) (fieldsOf f slot tpc d tfci) fields-widths
+
+  pub slot-length : length (slotOf f slot tpc d tfci) ≡ f .slot
+  unfolding slotOf
+  slot-length = joined-length (fieldsOf f slot tpc d tfci) ∙ ap total fields-widths ∙ s .fills
+
+  -- the stretch of field k, as it is lent
+  stretch : (k a e : ℕ) → k < 5 → a ≡ start k (widths f) → e ≡ a + getD (widths f) k 0
+      → getD (fieldsOf f slot tpc d tfci) k [] ≡ take (e - a) (drop a (slotOf f slot tpc d tfci))
+  stretch k a e h p q = sym (field-lent k a e (widths f) (slotOf f slot tpc d tfci) h p q ∙ field-of k)
+
+  -- the five parts of the slot's run, lent and filled one after the other
+  module _ (out : List ℕ) (out-long : length out ≡ f .slot) where
+    pub data1-written : (y : List ℕ) → y ≡ over d (midOf 0 (f .data1 - 0) out)
+        → Front (slotOf f slot tpc d tfci) out (putMid 0 (f .data1 - 0) out y) (f .data1)
+    unfolding fieldsOf
+    data1-written y e =
+        let n = sum f s in
+        let w : f .data1 - 0 ≡ f .data1 = omega arith in
+        front-copy (f .data1) d (front-none (slot-length ∙ sym out-long)) (omega arith) (omega arith) (omega arith) e
+        (ap (λ (k : ℕ). take k d) w ∙ stretch 0 0 (f .data1) (lit< tt) (start-data1 f) (omega arith))
+
+    pub tpc-written : (x y : List ℕ) → Front (slotOf f slot tpc d tfci) out x (f .data1)
+        → y ≡ replicate (length (midOf (f .data1) (f .data1 + f .tpc - f .data1) x)) tpc
+        → Front (slotOf f slot tpc d tfci) out (putMid (f .data1) (f .data1 + f .tpc - f .data1) x y) (f .data1 + f .tpc)
+    unfolding fieldsOf
+    tpc-written x y h e =
+        let n = sum f s in
+        let w : f .data1 + f .tpc - f .data1 ≡ f .tpc = omega arith in
+        front-fill (f .data1 + f .tpc) tpc h (omega arith) (omega arith) e
+        (ap (λ (k : ℕ). replicate k tpc) w ∙ stretch 1 (f .data1) (f .data1 + f .tpc) (lit< tt) (sym (start-tpc f)) refl)
+
+    pub tfci-written : (x y : List ℕ) → Front (slotOf f slot tpc d tfci) out x (f .data1 + f .tpc)
+        → y ≡ over tfci (midOf (f .data1 + f .tpc) (f .data1 + f .tpc + f .tfci - (f .data1 + f .tpc)) x)
+        → Front (slotOf f slot tpc d tfci) out (putMid (f .data1 + f .tpc) (f .data1 + f .tpc + f .tfci - (f .data1 + f .tpc)) x y) (f .data1 + f .tpc + f .tfci)
+    unfolding fieldsOf
+    tfci-written x y h e =
+        let n = sum f s in
+        front-copy (f .data1 + f .tpc + f .tfci) tfci h (omega arith) (omega arith) (omega arith) e
+        (take-all (f .data1 + f .tpc + f .tfci - (f .data1 + f .tpc)) tfci (omega arith)
+        ∙ stretch 2 (f .data1 + f .tpc) (f .data1 + f .tpc + f .tfci) (lit< tt) (sym (start-tfci f)) refl)
+
+    -- `rest` is the data from Data1's end on
+    pub data2-written : (x y rest : List ℕ) → rest ≡ drop (f .data1) d → Front (slotOf f slot tpc d tfci) out x (f .data1 + f .tpc + f .tfci)
+        → y ≡ over rest (midOf (f .data1 + f .tpc + f .tfci) (f .data1 + f .tpc + f .tfci + f .data2 - (f .data1 + f .tpc + f .tfci)) x)
+        → Front (slotOf f slot tpc d tfci) out
+          (putMid (f .data1 + f .tpc + f .tfci) (f .data1 + f .tpc + f .tfci + f .data2 - (f .data1 + f .tpc + f .tfci)) x y) (f .data1 + f .tpc + f .tfci + f .data2)
+    unfolding fieldsOf
+    data2-written x y rest r h e =
+        let n = sum f s in
+        let long : length rest ≡ f .data2 = ap length r ∙ length-drop (f .data1) d ∙ omega arith in
+        front-copy (f .data1 + f .tpc + f .tfci + f .data2) rest h (omega arith) (omega arith) (omega arith) e
+        (take-all (f .data1 + f .tpc + f .tfci + f .data2 - (f .data1 + f .tpc + f .tfci)) rest (omega arith)
+        ∙ r
+        ∙ stretch 3 (f .data1 + f .tpc + f .tfci) (f .data1 + f .tpc + f .tfci + f .data2) (lit< tt) (sym (start-data2 f)) refl)
+
+    pub pilot-written : (x y : List ℕ) → Front (slotOf f slot tpc d tfci) out x (f .data1 + f .tpc + f .tfci + f .data2)
+        → y ≡ over (pilotSource (length (midOf (f .data1 + f .tpc + f .tfci + f .data2) (f .data1 + f .tpc + f .tfci + f .data2 + f .pilot - (f .data1 + f .tpc + f .tfci + f .data2)) x)) slot)
+            (midOf (f .data1 + f .tpc + f .tfci + f .data2) (f .data1 + f .tpc + f .tfci + f .data2 + f .pilot - (f .data1 + f .tpc + f .tfci + f .data2)) x)
+        → putMid (f .data1 + f .tpc + f .tfci + f .data2) (f .data1 + f .tpc + f .tfci + f .data2 + f .pilot - (f .data1 + f .tpc + f .tfci + f .data2)) x y
+        ≡ slotOf f slot tpc d tfci
+    unfolding fieldsOf
+    pilot-written x y h e =
+        let n = sum f s in
+        let p = s .pilot slot in
+        let start = f .data1 + f .tpc + f .tfci + f .data2 in
+        let w : start + f .pilot - start ≡ f .pilot = omega arith in
+        let lent = front-lent start (start + f .pilot) h (omega arith) ∙ w in
+        let room = p .enough in
+        front-all
+        (front-copy (start + f .pilot) (pilotSource (f .pilot) slot) h (omega arith) (omega arith) (omega arith)
+        (e ∙ ap (λ (k : ℕ). over (pilotSource k slot) (midOf start (start + f .pilot - start) x)) lent)
+        (ap (λ (k : ℕ). take k (pilotSource (f .pilot) slot)) w
+        ∙ sym (p .cut-from)
+        ∙ stretch 4 start (start + f .pilot) (lit< tt) (sym (start-pilot f)) refl))
+        (omega arith)
+
+-- a run's part from a to its end is what is left of it
+pub rest-of : (a : ℕ) (xs : List ℕ) → take (length xs - a) (drop a xs) ≡ drop a xs
+rest-of a xs = take-all (length xs - a) (drop a xs) (simp length-drop (omega arith))
+
+-- a check of field k as it is lent from a to e
+module _ (f : Format) (xs : List ℕ) (k a e : ℕ) (h : k < 5) (p : a ≡ start k (widths f)) (q : e ≡ a + getD (widths f) k 0) where
+  pub check-field : (base number : ℕ) (ok : List ℕ → ℕ → Bool) (i : ℕ) (r : Verdict)
+      → i ≡ firstBad (ok (take (e - a) (drop a xs))) (length (take (e - a) (drop a xs)))
+      → r ≡ unless (leb (length (take (e - a) (drop a xs))) i) number (base + a + i)
+      → r ≡ each (base + start k (widths f)) number (ok (field k (widths f) xs)) (length (field k (widths f) xs))
+  check-field base number ok i r found is =
+      rw (← field-lent k a e (widths f) xs h p q, ← p)
+      (each-is (base + a) number (ok (take (e - a) (drop a xs))) (length (take (e - a) (drop a xs))) i r found is)
+
+-- the fields of a whole slot have their lengths
+module _ (f : Format) (xs : List ℕ) (w : Whole f (length xs)) where
+  pub field-long : (k : ℕ) → k < 5 → length (field k (widths f) xs) ≡ getD (widths f) k 0
+  field-long k h =
+      let fills = w .sound .fills in
+      let long = w .slot-ok in
+      field-length k (widths f) xs h (omega arith)
+
+  pub lent-long : (k a e : ℕ) → k < 5 → a ≡ start k (widths f) → e ≡ a + getD (widths f) k 0 → length (take (e - a) (drop a xs)) ≡ getD (widths f) k 0
+  lent-long k a e h p q = ap length (field-lent k a e (widths f) xs h p q) ∙ field-long k h
+
+  -- the first TPC digit stands where Data1 ends
+  pub command-at : 0 < f .tpc → getD xs (f .data1) 0 ≡ commandIn f xs
+  command-at h =
+      sym (field-at 1 (widths f) xs 0 0 (lit< tt) h ∙ ap (λ (n : ℕ). getD xs n 0) (add-zero (start 1 (widths f)) ∙ start-tpc f))
+
+  pub data-length : length (dataIn f xs) ≡ dataSize f
+  data-length =
+      let p = field-long 0 (lit< tt) in
+      let q = field-long 3 (lit< tt) in
+      length-append (field 0 (widths f) xs) (field 3 (widths f) xs) ∙ omega arith
+
+  -- Data1 and Data2 taken into one run, part by part, and TFCI into its own
+  module _ (out : List ℕ) (out-long : length out ≡ dataSize f) where
+    pub data1-taken : (y : List ℕ) → y ≡ over xs (midOf 0 (f .data1 - 0) out) → Front (dataIn f xs) out (putMid 0 (f .data1 - 0) out y) (f .data1)
+    data1-taken y e =
+        let n = sum f (w .sound) in
+        let long = w .slot-ok in
+        let z : f .data1 - 0 ≡ f .data1 = omega arith in
+        front-copy (f .data1) xs (front-none (data-length ∙ sym out-long)) (omega arith) (omega arith) (omega arith) e
+        (rw z
+        (sym (field-is 0 (widths f) xs (lit< tt) ∙ ap (λ (k : ℕ). take (f .data1) (drop k xs)) (sym (start-data1 f)))
+        ∙ sym (take-at (field 0 (widths f) xs) (field 3 (widths f) xs) (f .data1) (field-long 0 (lit< tt)))))
+
+    -- `part` is Data2 as it is lent
+    pub data2-taken : (x y part : List ℕ) → part ≡ field 3 (widths f) xs → Front (dataIn f xs) out x (f .data1)
+        → y ≡ over part (midOf (f .data1) (f .data1 + f .data2 - f .data1) x)
+        → putMid (f .data1) (f .data1 + f .data2 - f .data1) x y ≡ dataIn f xs
+    data2-taken x y part p h e =
+        let long : length part ≡ f .data2 = ap length p ∙ field-long 3 (lit< tt) in
+        front-all
+        (front-copy (f .data1 + f .data2) part h (omega arith) (omega arith) (omega arith) e
+        (ap (λ (l : List ℕ). take (f .data1 + f .data2 - f .data1) l)
+        (p ∙ sym (drop-at (field 0 (widths f) xs) (field 3 (widths f) xs) (f .data1) (field-long 0 (lit< tt))))))
+        (omega arith)
+
+  pub tfci-taken : (out y : List ℕ) → length out ≡ f .tfci → y ≡ over (take (f .data1 + f .tpc + f .tfci - (f .data1 + f .tpc)) (drop (f .data1 + f .tpc) xs)) out
+      → y ≡ tfciIn f xs
+  tfci-taken out y long e =
+      let lent = field-lent 2 (f .data1 + f .tpc) (f .data1 + f .tpc + f .tfci) (widths f) xs (lit< tt) (sym (start-tfci f)) refl in
+      e ∙ rw lent (over-whole (field 2 (widths f) xs) out (field-long 2 (lit< tt) ∙ sym long))
+
+pub data-small : (format : ℕ) → dataSize (formatOf format) ≤ 1280
+data-small format =
+    let s = sound-format format in
+    let n = sum (formatOf format) s in
+    let short = s .short in
+    omega arith
+
+-- a pilot field is compared with the pilot
+pub pilot-scan : (f : Format) (s : Sound f) (slot : ℕ) (xs : List ℕ) → length xs ≡ f .pilot
+    → firstBad (agree xs (pilotSource (length xs) slot)) (min (length xs) (length (pilotSource (length xs) slot)))
+    ≡ firstBad (agree xs (pilotOf (f .pilot) slot)) (length xs)
+pilot-scan f s slot xs long =
+    let p = s .pilot slot in
+    let room : length xs ≤ length (pilotSource (length xs) slot) = rw long (p .enough) in
+    let all : min (length xs) (length (pilotSource (length xs) slot)) ≡ length xs = omega arith in
+    rw all
+    (first-same _ _ (length xs)
+    (λ k h.
+      let below : k < f .pilot = rw long at h in
+      ap (λ (x : ℕ). eqb (getD xs k 0) x)
+      (ap (λ (n : ℕ). getD (pilotSource n slot) k 0) long
+      ∙ sym (ap (λ (l : List ℕ). getD l k 0) (p .cut-from) ∙ getD-take (f .pilot) (pilotSource (f .pilot) slot) k 0 below))))
+
+pub check-pilot : (f : Format) (xs : List ℕ) (w : Whole f (length xs)) (slot a e : ℕ) → a ≡ start 4 (widths f) → e ≡ a + f .pilot → (base number i : ℕ) (r : Verdict)
+    → i ≡ firstBad (agree (take (e - a) (drop a xs)) (pilotSource (length (take (e - a) (drop a xs))) slot))
+        (min (length (take (e - a) (drop a xs))) (length (pilotSource (length (take (e - a) (drop a xs))) slot)))
+    → r ≡ unless (leb (length (take (e - a) (drop a xs))) i) number (base + a + i)
+    → r ≡ each (base + start 4 (widths f)) number (agree (pilotIn f xs) (pilotOf (f .pilot) slot)) (length (pilotIn f xs))
+check-pilot f xs w slot a e p q base number i r found is =
+    check-field f xs 4 a e (lit< tt) p q base number (λ (s : List ℕ). agree s (pilotOf (f .pilot) slot)) i r
+    (found ∙ pilot-scan f (w .sound) slot (take (e - a) (drop a xs)) (lent-long f xs w 4 a e (lit< tt) p q)) is
+
+-- the TFCI rule where the first digit is a bit, where it is DTX and may be, and where it may not
+module _ (tfci : List ℕ) where
+  bits-alike : (allowed d : Bool) → not d ≡ ((allowed || not d) && Bool·beq d false)
+  bits-alike true true = refl
+  bits-alike true false = refl
+  bits-alike false true = refl
+  bits-alike false false = refl
+
+  pub tfci-bits : (allowed : Bool) (n : ℕ) → (getD tfci 0 0 ≡ dtx → ⊥) → firstBad (notAt dtx tfci) n ≡ firstBad (tfciStands allowed tfci) n
+  unfolding tfciStands
+  tfci-bits allowed n h = first-same _ _ n (λ k _. rw (ne-eqb (getD tfci 0 0) dtx h) (bits-alike allowed (eqb (getD tfci k 0) dtx)))
+
+  silent : (d : Bool) → d ≡ Bool·beq d true
+  silent true = refl
+  silent false = refl
+
+  pub tfci-silent : (allowed : Bool) (n : ℕ) → getD tfci 0 0 ≡ dtx → allowed ≡ true → firstBad (isAt dtx tfci) n ≡ firstBad (tfciStands allowed tfci) n
+  unfolding tfciStands
+  tfci-silent allowed n h a = first-same _ _ n (λ k _. rw (a, eq-eqb (getD tfci 0 0) dtx h) (silent (eqb (getD tfci k 0) dtx)))
+
+  pub tfci-never : (allowed : Bool) → getD tfci 0 0 ≡ dtx → allowed ≡ false → 0 ≡ firstBad (tfciStands allowed tfci) (length tfci)
+  unfolding tfciStands
+  tfci-never allowed h a =
+      sym (first-is _ (length tfci) 0 (omega arith) (λ k l. absurd (not-suc-le-zero l)) (λ _. rw (a, eq-eqb (getD tfci 0 0) dtx h)))
+
+-- a run that is a slot is checked digit by digit
+pub part-whole : (format slot : ℕ) (xs : List ℕ) (base : ℕ) → length xs ≡ formatOf format .slot
+    → partVerdict format slot xs base ≡ digitsVerdict format (formatOf format) slot xs base
+unfolding partVerdict
+part-whole format slot xs base e = or-else-next _ _ (ap (λ (v : Verdict). v .number) (unless-pass 3 0 (eq-eqb _ _ e)))

@@ -1,0 +1,86 @@
+-- Document 01, 'DPCH slot': what each call answers and leaves in each lent run, for all inputs.
+-- Assumes nothing.
+use Prim.Native.Nat.{ℕ, _+_}
+use mathlib.Core.Path.{_≡_}
+use mathlib.Core.List.{List}
+use lib.ListN.{length}
+use lib.Dec.{eqb, leb}
+use Rattle.run.specs.declared.Verdict.{Verdict}
+use Rattle.run.specs.First.{atMost, likeFirst, agree}
+use Rattle.run.specs.Fields.{start}
+use Rattle.run.specs.Refusals.{formatRefused, slotRefused, lengthRefused, digitRefused, tpcRefused, tfciRefused, pilotRefused}
+use Rattle.run.specs.Verdicts.{orElse, unless, each, leaves}
+use Rattle.dpch.specs.declared.Format.{Format}
+use Rattle.dpch.specs.Formats.{formatOf, widths, silenceAllowed}
+use Rattle.dpch.specs.Pilots.{pilotOf}
+use Rattle.slot.specs.declared.Command.{Command}
+use Rattle.slot.specs.Rule.{dataSize, slotOf, tpcIn, tfciIn, pilotIn, dataIn, commandIn, tfciStands}
+
+-- map: 1, 2, 3 (data, TFCI, output) ..
+unfoldable pub mapHead : ℕ → ℕ → ℕ → ℕ → ℕ → Verdict
+mapHead format slot dataLength tfciLength outLength =
+    orElse (unless (leb format 16) formatRefused 0)
+    (orElse (unless (leb slot 14) slotRefused 0)
+    (orElse (unless (eqb dataLength (dataSize (formatOf format))) lengthRefused 0)
+    (orElse (unless (eqb tfciLength (formatOf format .tfci)) lengthRefused 1)
+    (unless (eqb outLength (formatOf format .slot)) lengthRefused 2))))
+
+-- .. 5, then TFCI: 4 above 2, 6; then data 4 above 2. The places of command, TFCI and data count from where they stand in their runs
+unfoldable pub fieldsVerdict : ℕ → ℕ → List ℕ → List ℕ → ℕ → ℕ → ℕ → Verdict
+fieldsVerdict format tpc d tfci tpcPlace tfciBase dataBase =
+    orElse (unless (leb tpc 1) tpcRefused tpcPlace)
+    (orElse (each tfciBase digitRefused (atMost 2 tfci) (length tfci))
+    (orElse (each tfciBase tfciRefused (tfciStands (silenceAllowed format) tfci) (length tfci))
+    (each dataBase digitRefused (atMost 2 d) (length d))))
+
+unfoldable pub mapVerdict : ℕ → ℕ → ℕ → List ℕ → List ℕ → ℕ → Verdict
+mapVerdict format slot tpc d tfci outLength =
+    orElse (mapHead format slot (length d) (length tfci) outLength) (fieldsVerdict format tpc d tfci 0 0 0)
+
+pub record Map (format slot tpc : ℕ) (d tfci out : List ℕ) (answer : Verdict) (out-after : List ℕ) : Type 0 where
+  pub verdict-is : answer ≡ mapVerdict format slot tpc d tfci (length out)
+  pub out-is : out-after ≡ leaves (mapVerdict format slot tpc d tfci (length out)) (slotOf (formatOf format) slot tpc d tfci) out
+
+-- the part that writes a slot with no look at its digits
+pub record Put (format slot tpc : ℕ) (d tfci out : List ℕ) (answer : Verdict) (out-after : List ℕ) : Type 0 where
+  pub verdict-is : answer ≡ mapHead format slot (length d) (length tfci) (length out)
+  pub out-is : out-after ≡ leaves (mapHead format slot (length d) (length tfci) (length out)) (slotOf (formatOf format) slot tpc d tfci) out
+
+-- read: 1, 2, 3 (slot, data, TFCI) ..
+unfoldable pub readHead : ℕ → ℕ → ℕ → ℕ → ℕ → Verdict
+readHead format slot slotLength dataLength tfciLength =
+    orElse (unless (leb format 16) formatRefused 0)
+    (orElse (unless (leb slot 14) slotRefused 0)
+    (orElse (unless (eqb slotLength (formatOf format .slot)) lengthRefused 0)
+    (orElse (unless (eqb dataLength (dataSize (formatOf format))) lengthRefused 1)
+    (unless (eqb tfciLength (formatOf format .tfci)) lengthRefused 2))))
+
+-- .. 4 above 2, 5 (first TPC digit that is DTX or unlike the first), 6, 7; the slot's places count from base
+unfoldable pub digitsVerdict : ℕ → Format → ℕ → List ℕ → ℕ → Verdict
+digitsVerdict format f slot xs base =
+    orElse (each base digitRefused (atMost 2 xs) (length xs))
+    (orElse (each (base + start 1 (widths f)) tpcRefused (likeFirst (tpcIn f xs)) (length (tpcIn f xs)))
+    (orElse (each (base + start 2 (widths f)) tfciRefused (tfciStands (silenceAllowed format) (tfciIn f xs)) (length (tfciIn f xs)))
+    (each (base + start 4 (widths f)) pilotRefused (agree (pilotIn f xs) (pilotOf (f .pilot) slot)) (length (pilotIn f xs)))))
+
+unfoldable pub readVerdict : ℕ → ℕ → List ℕ → ℕ → ℕ → Verdict
+readVerdict format slot xs dataLength tfciLength =
+    orElse (readHead format slot (length xs) dataLength tfciLength) (digitsVerdict format (formatOf format) slot xs 0)
+
+pub record Read (format slot : ℕ) (xs d tfci : List ℕ) (answer : Command) (d-after tfci-after : List ℕ) : Type 0 where
+  pub verdict-is : answer .verdict ≡ readVerdict format slot xs (length d) (length tfci)
+  pub command-is : answer .tpc ≡ leaves (readVerdict format slot xs (length d) (length tfci)) (commandIn (formatOf format) xs) 0
+  pub data-is : d-after ≡ leaves (readVerdict format slot xs (length d) (length tfci)) (dataIn (formatOf format) xs) d
+  pub tfci-is : tfci-after ≡ leaves (readVerdict format slot xs (length d) (length tfci)) (tfciIn (formatOf format) xs) tfci
+
+-- the part that checks a slot's digits, with places counted from base: a run that is no slot of the format is refused as such
+unfoldable pub partVerdict : ℕ → ℕ → List ℕ → ℕ → Verdict
+partVerdict format slot xs base =
+    orElse (unless (eqb (length xs) (formatOf format .slot)) lengthRefused 0) (digitsVerdict format (formatOf format) slot xs base)
+
+-- the part that takes the fields out of a slot with no look at their digits
+pub record Take (format slot : ℕ) (xs d tfci : List ℕ) (answer : Command) (d-after tfci-after : List ℕ) : Type 0 where
+  pub verdict-is : answer .verdict ≡ readHead format slot (length xs) (length d) (length tfci)
+  pub command-is : answer .tpc ≡ leaves (readHead format slot (length xs) (length d) (length tfci)) (commandIn (formatOf format) xs) 0
+  pub data-is : d-after ≡ leaves (readHead format slot (length xs) (length d) (length tfci)) (dataIn (formatOf format) xs) d
+  pub tfci-is : tfci-after ≡ leaves (readHead format slot (length xs) (length d) (length tfci)) (tfciIn (formatOf format) xs) tfci

@@ -1,0 +1,33 @@
+-- What the private writers and readers of fields ask of their callers. No public call asks anything.
+-- Assumes nothing.
+use Prim.Native.Nat.{ℕ, _<_, _≤_}
+use mathlib.Core.Path.{_≡_}
+use lib.ListN.{length, take}
+use Rattle.run.specs.Fields.{total}
+use Rattle.dpch.specs.declared.Format.{Format}
+use Rattle.dpch.specs.Formats.{widths}
+use Rattle.dpch.specs.Pilots.{pilotSource, pilotOf}
+use Rattle.slot.specs.Rule.{dataSize}
+
+-- a pilot of so many bits is cut from what it is the beginning of
+pub record PilotCut (bits slot : ℕ) : Type 0 where
+  pub cut-from : pilotOf bits slot ≡ take bits (pilotSource bits slot)
+  pub enough : bits ≤ length (pilotSource bits slot)
+
+-- the fields fill a slot
+pub record Sound (f : Format) : Type 0 where
+  pub fills : total (widths f) ≡ f .slot
+  pub short : f .slot ≤ 1280
+  pub pilot : (slot : ℕ) → PilotCut (f .pilot) slot
+
+-- a run is a slot
+pub record Whole (f : Format) (n : ℕ) : Type 0 where
+  pub sound : Sound f
+  pub slot-ok : n ≡ f .slot
+
+-- the runs of the fields and of the slot have their lengths
+pub record Ready (f : Format) (dataLength tfciLength slotLength : ℕ) : Type 0 where
+  pub sound : Sound f
+  pub data-ok : dataLength ≡ dataSize f
+  pub tfci-ok : tfciLength ≡ f .tfci
+  pub slot-ok : slotLength ≡ f .slot
