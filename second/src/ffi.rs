@@ -29,3 +29,34 @@ pub fn pich_read(np: usize, frame: &mut Lent<u8>, indicators: &mut Lent<u8>) -> 
         slt_pich_read(np, frame.pointer(), frame.len(), indicators.pointer(), indicators.len())
     })
 }
+
+// DPCH slot
+
+unsafe extern "C" {
+    fn slt_slot_map(
+        format: usize, slot: usize, tpc: usize, data: *const u8, n_data: usize, tfci: *const u8, n_tfci: usize,
+        out: *mut u8, n_out: usize,
+    ) -> u64;
+    fn slt_slot_read(
+        format: usize, slot: usize, run: *const u8, n_run: usize, data: *mut u8, n_data: usize, tfci: *mut u8,
+        n_tfci: usize,
+    ) -> u64;
+}
+
+pub fn slot_map(
+    format: usize, slot: usize, tpc: usize, data: &mut Lent<u8>, tfci: &mut Lent<u8>, out: &mut Lent<u8>,
+) -> Answer {
+    let (n_data, n_tfci, n_out) = (data.len(), tfci.len(), out.len());
+    Answer::unpack(unsafe {
+        slt_slot_map(format, slot, tpc, data.pointer(), n_data, tfci.pointer(), n_tfci, out.pointer(), n_out)
+    })
+}
+
+pub fn slot_read(
+    format: usize, slot: usize, run: &mut Lent<u8>, data: &mut Lent<u8>, tfci: &mut Lent<u8>,
+) -> Answer {
+    let (n_run, n_data, n_tfci) = (run.len(), data.len(), tfci.len());
+    Answer::unpack(unsafe {
+        slt_slot_read(format, slot, run.pointer(), n_run, data.pointer(), n_data, tfci.pointer(), n_tfci)
+    })
+}

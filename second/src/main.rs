@@ -27,6 +27,7 @@ type Channel = (&'static str, fn(&mut Judge));
 
 const CHANNELS: &[Channel] = &[
     ("pich", compare::pich::all),
+    ("dpch", compare::dpch::all),
 ];
 
 fn main() {

@@ -36,7 +36,7 @@ unfolding formats
 format-sizes n =
     record {
       short = leb-true _ _ (every-format (λ (f : Format). leb (f .slot) 1280) refl refl n);
-      has-tpc = λ h. ltb-true _ _ (tpc-some n h)
+      has-tpc = λ h. ltb-true _ _ (tpc-some n h);
     }
 
 -- the bits that a pilot can have, 0 for the row of zeros
@@ -76,5 +76,5 @@ format-pilots format slot =
       cut-from = at-each (λ (n : ℕ). pilotOf n slot ≡ take n (pilotSource n slot)) refl refl refl refl refl format;
       enough = at-each (λ (n : ℕ). n ≤ length (pilotSource n slot)) (omega arith) (omega arith) (omega arith) (omega arith) (omega arith) format;
       long = at-each (λ (n : ℕ). length (pilotOf n slot) ≡ n) refl refl refl refl refl format;
-      digits = λ h k. leb-true _ _ (table-test (λ (x : ℕ). leb x 1) 0 refl (pilotOf (formatOf format .pilot) slot) (pilot-bits format slot h) k)
+      digits = λ h k. leb-true _ _ (table-test (λ (x : ℕ). leb x 1) 0 refl (pilotOf (formatOf format .pilot) slot) (pilot-bits format slot h) k);
     }

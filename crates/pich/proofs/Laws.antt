@@ -110,7 +110,7 @@ module _ (np : ℕ) (indicators : List ℕ) where
       let room = g .inside q h in
       let w : r + width np - r ≡ width np = omega arith in
       let filled : replicate (r + width np - r) (getD indicators q 0) ≡ take (r + width np - r) (drop r (frameOf np indicators)) =
-        rw (w, e) (stretch ok q h)
+      rw (w, e) (stretch ok q h)
       in
       let at-r : Front (frameOf np indicators) d₀ d r = rw e f in
       let next : r + width np ≡ width np * (q + 1) = ap (λ (n : ℕ). n + width np) e ∙ g .next q in

@@ -37,8 +37,8 @@ map-headed format slot dataLength tfciLength outLength h =
         sound = sound-format format;
         data-ok = eqb-true _ _ (unless-done _ 3 0 (omega arith) (c3 .first));
         tfci-ok = eqb-true _ _ (unless-done _ 3 1 (omega arith) (c4 .first));
-        slot-ok = eqb-true _ _ (unless-done _ 3 2 (omega arith) (c4 .rest))
-      }
+        slot-ok = eqb-true _ _ (unless-done _ 3 2 (omega arith) (c4 .rest));
+      };
     }
 
 pub read-headed : (format slot slotLength dataLength tfciLength : ℕ) → readHead format slot slotLength dataLength tfciLength .number ≡ 0
@@ -56,8 +56,8 @@ read-headed format slot slotLength dataLength tfciLength h =
         sound = sound-format format;
         data-ok = eqb-true _ _ (unless-done _ 3 1 (omega arith) (c4 .first));
         tfci-ok = eqb-true _ _ (unless-done _ 3 2 (omega arith) (c4 .rest));
-        slot-ok = eqb-true _ _ (unless-done _ 3 0 (omega arith) (c3 .first))
-      }
+        slot-ok = eqb-true _ _ (unless-done _ 3 0 (omega arith) (c3 .first));
+      };
     }
 
 -- command, TFCI and data
@@ -78,7 +78,7 @@ fields-ok format tpc d tfci tpcPlace tfciBase dataBase h =
       tpc-ok = leb-true _ _ (unless-done _ 5 tpcPlace (omega arith) (c1 .first));
       tfci-digits = each-done tfciBase 4 _ _ (omega arith) (c2 .first);
       tfci-kinds = each-done tfciBase 6 _ _ (omega arith) (c3 .first);
-      data-digits = each-done dataBase 4 _ _ (omega arith) (c3 .rest)
+      data-digits = each-done dataBase 4 _ _ (omega arith) (c3 .rest);
     }
 
 -- the digits of a slot
@@ -98,7 +98,7 @@ digits-ok format f slot xs base h =
       digits = each-done base 4 _ _ (omega arith) (c1 .first);
       alike = each-done _ 5 _ _ (omega arith) (c2 .first);
       kinds = each-done _ 6 _ _ (omega arith) (c3 .first);
-      pilot = each-done _ 7 _ _ (omega arith) (c3 .rest)
+      pilot = each-done _ 7 _ _ (omega arith) (c3 .rest);
     }
 
 -- fields that map takes
@@ -115,7 +115,7 @@ mapped format slot tpc d tfci outLength h =
     record {
       head-done = c .first;
       head = map-headed format slot (length d) (length tfci) outLength (c .first);
-      fields = fields-ok format tpc d tfci 0 0 0 (c .rest)
+      fields = fields-ok format tpc d tfci 0 0 0 (c .rest);
     }
 
 -- a slot that read accepts
@@ -132,5 +132,5 @@ accepted format slot xs dataLength tfciLength h =
     record {
       head-done = c .first;
       head = read-headed format slot (length xs) dataLength tfciLength (c .first);
-      digits = digits-ok format (formatOf format) slot xs 0 (c .rest)
+      digits = digits-ok format (formatOf format) slot xs 0 (c .rest);
     }

@@ -36,7 +36,7 @@ sound-format format =
     record {
       fills = fields-fill format;
       short = format-sizes format .short;
-      pilot = λ slot. record { cut-from = format-pilots format slot .cut-from; enough = format-pilots format slot .enough }
+      pilot = λ slot. record { cut-from = format-pilots format slot .cut-from; enough = format-pilots format slot .enough };
     }
 
 module _ (f : Format) where
@@ -125,7 +125,7 @@ module _ (f : Format) (s : Sound f) (slot tpc : ℕ) (d tfci : List ℕ) (data-l
     pub data2-written : (x y rest : List ℕ) → rest ≡ drop (f .data1) d → Front (slotOf f slot tpc d tfci) out x (f .data1 + f .tpc + f .tfci)
         → y ≡ over rest (midOf (f .data1 + f .tpc + f .tfci) (f .data1 + f .tpc + f .tfci + f .data2 - (f .data1 + f .tpc + f .tfci)) x)
         → Front (slotOf f slot tpc d tfci) out
-          (putMid (f .data1 + f .tpc + f .tfci) (f .data1 + f .tpc + f .tfci + f .data2 - (f .data1 + f .tpc + f .tfci)) x y) (f .data1 + f .tpc + f .tfci + f .data2)
+        (putMid (f .data1 + f .tpc + f .tfci) (f .data1 + f .tpc + f .tfci + f .data2 - (f .data1 + f .tpc + f .tfci)) x y) (f .data1 + f .tpc + f .tfci + f .data2)
     unfolding fieldsOf
     data2-written x y rest r h e =
         let n = sum f s in
@@ -137,7 +137,7 @@ module _ (f : Format) (s : Sound f) (slot tpc : ℕ) (d tfci : List ℕ) (data-l
 
     pub pilot-written : (x y : List ℕ) → Front (slotOf f slot tpc d tfci) out x (f .data1 + f .tpc + f .tfci + f .data2)
         → y ≡ over (pilotSource (length (midOf (f .data1 + f .tpc + f .tfci + f .data2) (f .data1 + f .tpc + f .tfci + f .data2 + f .pilot - (f .data1 + f .tpc + f .tfci + f .data2)) x)) slot)
-            (midOf (f .data1 + f .tpc + f .tfci + f .data2) (f .data1 + f .tpc + f .tfci + f .data2 + f .pilot - (f .data1 + f .tpc + f .tfci + f .data2)) x)
+        (midOf (f .data1 + f .tpc + f .tfci + f .data2) (f .data1 + f .tpc + f .tfci + f .data2 + f .pilot - (f .data1 + f .tpc + f .tfci + f .data2)) x)
         → putMid (f .data1 + f .tpc + f .tfci + f .data2) (f .data1 + f .tpc + f .tfci + f .data2 + f .pilot - (f .data1 + f .tpc + f .tfci + f .data2)) x y
         ≡ slotOf f slot tpc d tfci
     unfolding fieldsOf
@@ -240,14 +240,14 @@ pilot-scan f s slot xs long =
     rw all
     (first-same _ _ (length xs)
     (λ k h.
-      let below : k < f .pilot = rw long at h in
-      ap (λ (x : ℕ). eqb (getD xs k 0) x)
-      (ap (λ (n : ℕ). getD (pilotSource n slot) k 0) long
-      ∙ sym (ap (λ (l : List ℕ). getD l k 0) (p .cut-from) ∙ getD-take (f .pilot) (pilotSource (f .pilot) slot) k 0 below))))
+    let below : k < f .pilot = rw long at h in
+    ap (λ (x : ℕ). eqb (getD xs k 0) x)
+    (ap (λ (n : ℕ). getD (pilotSource n slot) k 0) long
+    ∙ sym (ap (λ (l : List ℕ). getD l k 0) (p .cut-from) ∙ getD-take (f .pilot) (pilotSource (f .pilot) slot) k 0 below))))
 
 pub check-pilot : (f : Format) (xs : List ℕ) (w : Whole f (length xs)) (slot a e : ℕ) → a ≡ start 4 (widths f) → e ≡ a + f .pilot → (base number i : ℕ) (r : Verdict)
     → i ≡ firstBad (agree (take (e - a) (drop a xs)) (pilotSource (length (take (e - a) (drop a xs))) slot))
-        (min (length (take (e - a) (drop a xs))) (length (pilotSource (length (take (e - a) (drop a xs))) slot)))
+    (min (length (take (e - a) (drop a xs))) (length (pilotSource (length (take (e - a) (drop a xs))) slot)))
     → r ≡ unless (leb (length (take (e - a) (drop a xs))) i) number (base + a + i)
     → r ≡ each (base + start 4 (widths f)) number (agree (pilotIn f xs) (pilotOf (f .pilot) slot)) (length (pilotIn f xs))
 check-pilot f xs w slot a e p q base number i r found is =

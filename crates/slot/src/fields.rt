@@ -31,7 +31,11 @@ pub(crate) fn first_mixed(s: &[u8], allowed: bool) -> usize
     if first != DTX {
         return scan::first_equal(s, DTX);
     }
-    if allowed { scan::first_other(s, DTX) } else { 0 }
+    if allowed {
+        scan::first_other(s, DTX)
+    } else {
+        0
+    }
 }
 
 // The pilot of a slot, as long as the field.
@@ -105,10 +109,25 @@ pub(crate) fn check(format: usize, f: Format, slot: usize, xs: &[u8], base: u32)
     let pilot = &xs[d..e];
     let last = placed(pilot, pilot_differs(pilot, slot), refusal::PILOT, base, d);
     let tfci = &xs[b..c];
-    let kinds = or_else(placed(tfci, first_mixed(tfci, 12 <= format), refusal::TFCI, base, b), last);
+    let kinds = or_else(
+        placed(
+            tfci,
+            first_mixed(tfci, 12 <= format),
+            refusal::TFCI,
+            base,
+            b,
+        ),
+        last,
+    );
     let tpc = &xs[a..b];
-    let commands = or_else(placed(tpc, scan::first_unlike(tpc), refusal::TPC, base, a), kinds);
-    or_else(found(xs, scan::first_above(xs, 2), refusal::DIGIT, base), commands)
+    let commands = or_else(
+        placed(tpc, scan::first_unlike(tpc), refusal::TPC, base, a),
+        kinds,
+    );
+    or_else(
+        found(xs, scan::first_above(xs, 2), refusal::DIGIT, base),
+        commands,
+    )
 }
 
 // Data and TFCI, out of their stretches.

@@ -19,13 +19,22 @@ pub struct Command {
 }
 
 // The checks of numbers and lengths.
-fn map_head(format: usize, slot: usize, data_length: usize, tfci_length: usize, out_length: usize) -> Verdict
+fn map_head(
+    format: usize,
+    slot: usize,
+    data_length: usize,
+    tfci_length: usize,
+    out_length: usize,
+) -> Verdict
     ensures { λ r. ⌜ r ≡ mapHead format slot «data_length» «tfci_length» «out_length» ⌝ }
 {
     let f = dpch::format_of(format);
     let third = unless(out_length == f.slot, refusal::LENGTH, 2);
     let second = or_else(unless(tfci_length == f.tfci, refusal::LENGTH, 1), third);
-    let lengths = or_else(unless(data_length == f.data1 + f.data2, refusal::LENGTH, 0), second);
+    let lengths = or_else(
+        unless(data_length == f.data1 + f.data2, refusal::LENGTH, 0),
+        second,
+    );
     let numbers = or_else(unless(slot <= 14, refusal::SLOT, 0), lengths);
     or_else(unless(format <= 16, refusal::FORMAT, 0), numbers)
 }
@@ -43,12 +52,30 @@ pub fn fields_verdict(
     ensures { λ r. ⌜ r ≡ fieldsVerdict format tpc (now («data» .entry)) (now (tfci .entry)) «tpc_place» «tfci_base» «data_base» ⌝ }
 {
     let last = found(data, scan::first_above(data, 2), refusal::DIGIT, data_base);
-    let kinds = or_else(found(tfci, fields::first_mixed(tfci, 12 <= format), refusal::TFCI, tfci_base), last);
-    let digits = or_else(found(tfci, scan::first_above(tfci, 2), refusal::DIGIT, tfci_base), kinds);
+    let kinds = or_else(
+        found(
+            tfci,
+            fields::first_mixed(tfci, 12 <= format),
+            refusal::TFCI,
+            tfci_base,
+        ),
+        last,
+    );
+    let digits = or_else(
+        found(tfci, scan::first_above(tfci, 2), refusal::DIGIT, tfci_base),
+        kinds,
+    );
     or_else(unless(tpc <= 1, refusal::TPC, tpc_place), digits)
 }
 
-fn map_verdict(format: usize, slot: usize, tpc: usize, data: &[u8], tfci: &[u8], out_length: usize) -> Verdict
+fn map_verdict(
+    format: usize,
+    slot: usize,
+    tpc: usize,
+    data: &[u8],
+    tfci: &[u8],
+    out_length: usize,
+) -> Verdict
     ensures { λ r. ⌜ r ≡ mapVerdict format slot tpc (now («data» .entry)) (now (tfci .entry)) «out_length» ⌝ }
 {
     let head = map_head(format, slot, data.len(), tfci.len(), out_length);
@@ -72,7 +99,14 @@ pub fn put(format: usize, slot: usize, tpc: u8, data: &[u8], tfci: &[u8], out: &
 }
 
 // The slot of the fields, or the refusal and `out` as it was.
-pub fn map(format: usize, slot: usize, tpc: usize, data: &[u8], tfci: &[u8], out: &mut [u8]) -> Verdict
+pub fn map(
+    format: usize,
+    slot: usize,
+    tpc: usize,
+    data: &[u8],
+    tfci: &[u8],
+    out: &mut [u8],
+) -> Verdict
     ensures { λ r. ⌜ Map format slot tpc (now («data» .entry)) (now (tfci .entry)) (now (out .entry)) r (now (out .exit)) ⌝ }
 {
     let verdict = map_verdict(format, slot, tpc, data, tfci, out.len());
@@ -84,12 +118,21 @@ pub fn map(format: usize, slot: usize, tpc: usize, data: &[u8], tfci: &[u8], out
 }
 
 // The checks of numbers and lengths.
-fn read_head(format: usize, slot: usize, slot_length: usize, data_length: usize, tfci_length: usize) -> Verdict
+fn read_head(
+    format: usize,
+    slot: usize,
+    slot_length: usize,
+    data_length: usize,
+    tfci_length: usize,
+) -> Verdict
     ensures { λ r. ⌜ r ≡ readHead format slot «slot_length» «data_length» «tfci_length» ⌝ }
 {
     let f = dpch::format_of(format);
     let third = unless(tfci_length == f.tfci, refusal::LENGTH, 2);
-    let second = or_else(unless(data_length == f.data1 + f.data2, refusal::LENGTH, 1), third);
+    let second = or_else(
+        unless(data_length == f.data1 + f.data2, refusal::LENGTH, 1),
+        third,
+    );
     let lengths = or_else(unless(slot_length == f.slot, refusal::LENGTH, 0), second);
     let numbers = or_else(unless(slot <= 14, refusal::SLOT, 0), lengths);
     or_else(unless(format <= 16, refusal::FORMAT, 0), numbers)
@@ -109,7 +152,13 @@ pub fn part_verdict(format: usize, slot: usize, xs: &[u8], base: u32) -> Verdict
     fields::check(format, f, slot, xs, base)
 }
 
-fn read_verdict(format: usize, slot: usize, xs: &[u8], data_length: usize, tfci_length: usize) -> Verdict
+fn read_verdict(
+    format: usize,
+    slot: usize,
+    xs: &[u8],
+    data_length: usize,
+    tfci_length: usize,
+) -> Verdict
     ensures { λ r. ⌜ r ≡ readVerdict format slot (now (xs .entry)) «data_length» «tfci_length» ⌝ }
 {
     let head = read_head(format, slot, xs.len(), data_length, tfci_length);

@@ -1,1 +1,3 @@
-pub mod Exact
+pub mod Packed
+pub mod Pich
+pub mod Slot

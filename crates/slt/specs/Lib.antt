@@ -1,3 +1,3 @@
 pub mod Packed
-pub mod Outcome
-pub mod Exact
+pub mod Pich
+pub mod Slot

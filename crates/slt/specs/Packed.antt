@@ -1,7 +1,9 @@
 -- Document 01: 'number, place and value come packed in one 64-bit number': bits 0 to 15, 16 to 47 and 48 to 63 (docs/INTERFACE.md).
 -- Assumes nothing.
-use Prim.Native.Nat.{ℕ, _+_, _*_, _/_, _%_}
+use Prim.Native.Nat.{ℕ, _+_, _*_, _/_, _%_, _<_, _^_}
+use mathlib.Core.Path.{_≡_}
 use Rattle.run.specs.declared.Verdict.{Verdict}
+use Rattle.run.specs.Verdicts.{Narrow}
 
 abbrev pub packed : Verdict → ℕ → ℕ
 packed v value = v .number + 65536 * v .place + 281474976710656 * value
@@ -15,3 +17,14 @@ placeIn answer = answer / 65536 % 4294967296
 
 abbrev pub valueIn : ℕ → ℕ
 valueIn answer = answer / 281474976710656
+
+-- number, place and value are had back from an answer
+pub record Tells (answer : ℕ) (v : Verdict) (value : ℕ) : Type 0 where
+  pub fits : answer < 2 ^ 64
+  pub number-is : numberIn answer ≡ v .number
+  pub place-is : placeIn answer ≡ v .place
+  pub value-is : valueIn answer ≡ value
+
+-- .. where they fit their fields, as in every call (the statement `..Tells` of each channel's file). Proved in proofs/Packed.antt as `unpacks`
+abbrev pub Unpacks : Type 0
+Unpacks = (v : Verdict) (value : ℕ) → Narrow v → value < 65536 → Tells (packed v value) v value

@@ -5,7 +5,8 @@ ghost use mathlib.Core.Path.{_≡_};
 ghost use Prim.Native.Nat.{_<_};
 ghost use Rattle.run.specs.Verdicts.{Narrow};
 ghost use Rattle.slt.specs.Packed.{packed};
-ghost use Rattle.slt.specs.Outcome.{PichQ, PichMap, PichRead};
+ghost use Rattle.slt.specs.Pich.{PichQ, PichMap, PichRead};
+ghost use Rattle.slt.specs.Slot.{SlotMap, SlotRead};
 
 // Number in bits 0 to 15, place in bits 16 to 47, value in bits 48 to 63.
 fn pack(v: Verdict, value: usize) -> u64
@@ -39,4 +40,33 @@ pub extern "C" fn slt_pich_read(np: usize, frame: &[u8], indicators: &mut [u8]) 
     ensures { λ r. ⌜ PichRead np (now (frame .entry)) (now (indicators .entry)) r (now (indicators .exit)) ⌝ }
 {
     pack(pich::read(np, frame, indicators), 0)
+}
+
+#[no_mangle]
+pub extern "C" fn slt_slot_map(
+    format: usize,
+    slot: usize,
+    tpc: usize,
+    data: &[u8],
+    tfci: &[u8],
+    out: &mut [u8],
+) -> u64
+    ensures { λ r. ⌜ SlotMap format slot tpc (now («data» .entry)) (now (tfci .entry)) (now (out .entry)) r (now (out .exit)) ⌝ }
+{
+    pack(slot::map(format, slot, tpc, data, tfci, out), 0)
+}
+
+#[no_mangle]
+pub extern "C" fn slt_slot_read(
+    format: usize,
+    slot: usize,
+    run: &[u8],
+    data: &mut [u8],
+    tfci: &mut [u8],
+) -> u64
+    ensures { λ r. ⌜ SlotRead format slot (now (run .entry)) (now («data» .entry)) (now (tfci .entry)) r (now («data» .exit)) (now (tfci .exit)) ⌝ }
+{
+    let command = slot::read(format, slot, run, data, tfci);
+    let verdict = command.verdict;
+    pack(verdict, command.tpc)
 }

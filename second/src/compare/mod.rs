@@ -2,4 +2,19 @@
 //!
 //! In every comparison `None` for a run is NULL with length 0.
 
+pub mod dpch;
 pub mod pich;
+
+/// Lengths to try for a run: the right one, near it, far from it, and equal to it in the low 8 or 16 bits. `None` is
+/// NULL.
+fn lengths(right: usize) -> Vec<Option<usize>> {
+    let below = right.saturating_sub(1);
+    let some = [0, 1, below, right, right + 1, right / 2, 2 * right, right + 256, right + 65536];
+    let mut all = vec![None];
+    for length in some.map(Some) {
+        if !all.contains(&length) {
+            all.push(length);
+        }
+    }
+    all
+}

@@ -120,13 +120,10 @@ fn good_frame(np: usize, indicators: &[u8]) -> Vec<u8> {
     rules::map(np, indicators, FRAME).expect("good indicators")
 }
 
-/// Lengths that are wrong unless they happen to be the right one: near it, far from it, and equal to it in the low
-/// 8 or 16 bits. `None` is NULL.
+/// Lengths near and far, and those of another Np.
 fn lengths(right: usize) -> Vec<Option<usize>> {
-    let near = [right - 1, right, right + 1, right / 2, 2 * right, right + 256, right + 65536];
-    let other = [0, 1, 18, 36, 72, 144, 288, 299, 300, 301];
-    let mut all = vec![None];
-    all.extend(near.into_iter().chain(other).map(Some));
+    let mut all = super::lengths(right);
+    all.extend([18, 36, 72, 144, 288, 299, 300, 301].map(Some));
     all
 }
 

@@ -24,12 +24,11 @@ returns c = table-rule _ 15 pilotRow refl _ [] (c .before .if1 .taken)
 returns-2 : tie.Need-returns-2
 unfolding symbols1 symbols3 symbols5 symbols7 symbolsOf pilotRow joined
 returns-2 c =
-    rw
-    (
+    rw (
       List·getD-eq-default symbols1 0 (c .if1 .left),
       List·getD-eq-default symbols3 0 (c .if1 .left),
       List·getD-eq-default symbols5 0 (c .if1 .left),
-      List·getD-eq-default symbols7 0 (c .if1 .left)
+      List·getD-eq-default symbols7 0 (c .if1 .left),
     )
 
 pub pilot-row-spec : {M : Type 1} → statement M

@@ -33,7 +33,7 @@ returns-2 c =
     let z = rw e at (c .before .before .before .before .if1 .left) in
     record {
       verdict-is = e;
-      out-is = c .before .before .put .ensures .out-is ∙ leaves-done _ _ _ (mapped _ _ _ _ _ _ z .head-done) ∙ sym (leaves-done _ _ _ z)
+      out-is = c .before .before .put .ensures .out-is ∙ leaves-done _ _ _ (mapped _ _ _ _ _ _ z .head-done) ∙ sym (leaves-done _ _ _ z);
     }
 
 pub map-spec : {M : Type 1} → statement M

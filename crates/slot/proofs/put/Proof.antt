@@ -29,7 +29,7 @@ returns-2 c =
     let e = c .before .before .before .before .before .before .before .map-head .ensures in
     record {
       verdict-is = e;
-      out-is = c .before .before .write .ensures ∙ rw (c .before .before .before .before .format-of .ensures) (sym (leaves-done _ _ _ (rw e at (c .before .before .before .before .before .if1 .left))))
+      out-is = c .before .before .write .ensures ∙ rw (c .before .before .before .before .format-of .ensures) (sym (leaves-done _ _ _ (rw e at (c .before .before .before .before .before .if1 .left))));
     }
 
 pub put-spec : {M : Type 1} → statement M

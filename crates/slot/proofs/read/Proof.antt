@@ -35,7 +35,7 @@ returns-2 c =
       verdict-is = e;
       command-is = t .command-is ∙ leaves-done _ _ _ h ∙ sym (leaves-done _ _ _ z);
       data-is = t .data-is ∙ leaves-done _ _ _ h ∙ sym (leaves-done _ _ _ z);
-      tfci-is = t .tfci-is ∙ leaves-done _ _ _ h ∙ sym (leaves-done _ _ _ z)
+      tfci-is = t .tfci-is ∙ leaves-done _ _ _ h ∙ sym (leaves-done _ _ _ z);
     }
 
 pub read-spec : {M : Type 1} → statement M

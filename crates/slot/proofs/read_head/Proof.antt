@@ -1,4 +1,3 @@
-
 -- `slot::read_head` meets its contract: the chain of checks is the definition's.
 -- Assumes nothing.
 use mathlib.Core.Path.{_∙_}

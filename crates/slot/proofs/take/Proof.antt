@@ -1,4 +1,3 @@
-
 -- `slot::take` meets its contract.
 -- Assumes nothing.
 use mathlib.Core.Path.{sym, _∙_}
@@ -46,7 +45,7 @@ returns-2 c =
       verdict-is = e;
       command-is = c .command .ensures ∙ rw f (sym (leaves-done _ _ _ z));
       data-is = c .before .before .before .before .before .take .ensures .0 ∙ rw f (sym (leaves-done _ _ _ z));
-      tfci-is = c .before .before .before .before .before .take .ensures .1 ∙ rw f (sym (leaves-done _ _ _ z))
+      tfci-is = c .before .before .before .before .before .take .ensures .1 ∙ rw f (sym (leaves-done _ _ _ z));
     }
 
 pub take-spec : {M : Type 1} → statement M

@@ -36,7 +36,7 @@ shared-slice-read-if2 : tie.Need-shared-slice-read-if2 Inv-loop μ-loop
 shared-slice-read-if2 c = omega arith
 
 returns-2 : tie.Need-returns-2 Inv-loop μ-loop
-returns-2 c = 
+returns-2 c =
     scan-hit (c .before .before .before .loop .inv) (c .before .before .loop-test .taken) (lt-leb _ _ (c .if2 .taken))
 
 add-i : tie.Need-add-i Inv-loop μ-loop
@@ -46,7 +46,7 @@ loop-less : tie.Need-loop-less Inv-loop μ-loop
 loop-less c = omega arith
 
 loop-again : tie.Need-loop-again Inv-loop μ-loop
-loop-again c = 
+loop-again c =
     scan-pass (c .before .before .before .loop .inv) (c .before .before .loop-test .taken) (le-leb _ _ (c .if2 .left))
 
 returns-3 : tie.Need-returns-3 Inv-loop μ-loop

@@ -33,11 +33,11 @@ loop-less : tie.Need-loop-less Inv-loop μ-loop
 loop-less c = omega arith
 
 loop-again : tie.Need-loop-again Inv-loop μ-loop
-loop-again c = 
+loop-again c =
     let head = c .before .before .before in
     let s = now (head .before .args .s) in
     let above : (head .loop .high ≤ c .if1 .high) × (getD s (head .loop .i) 0 ≤ c .if1 .high) =
-        ⊎-elim (λ w. omega arith) (λ w. omega arith) (c .if1 .came)
+    ⊎-elim (λ w. omega arith) (λ w. omega arith) (c .if1 .came)
     in
     (omega arith, raised s _ _ _ (head .loop .inv .1) above)
 

@@ -1,4 +1,3 @@
-
 -- `slot::fields::command` meets its contract: the first TPC digit stands where Data1 ends.
 -- Assumes nothing.
 use native.Mathlib.Omega.{arith}

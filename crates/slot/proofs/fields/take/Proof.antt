@@ -84,10 +84,11 @@ returns c =
     let pre = c .before .before .before .before .before .before .before .before .before .before .before .before .before .before .before .before .before .before .before .before .before .pre in
     let a = c .before .before .before .before .before .before .before .before .before .before .before .before .before .before .before .before .before .before .before .before .before .args in
     let w : Whole (a .f) (length (now (a .xs))) = record { sound = pre .sound; slot-ok = pre .slot-ok } in
-    let p1 = data1-taken (a .f) (now (a .xs)) w (now (a .«data»)) (pre .data-ok) _ (c .before .before .before .before .before .before .before .before .before .before .before .before .copy .ensures) in
-    (data2-taken (a .f) (now (a .xs)) w (now (a .«data»)) (pre .data-ok) _ _ _
-      (field-lent 3 _ _ _ _ (lit< tt) (sym (start-data2 (a .f))) refl) p1 (c .before .before .before .before .before .before .before .copy2 .ensures),
-      tfci-taken (a .f) (now (a .xs)) w _ _ (pre .tfci-ok) (c .before .before .copy3 .ensures))
+    let p1 = data1-taken (a .f) (now (a .xs)) w (now (a .«data»)) (pre .data-ok) _ (c .before .before .before .before .before .before .before .before .before .before .before .before .copy .ensures) in (
+      data2-taken (a .f) (now (a .xs)) w (now (a .«data»)) (pre .data-ok) _ _ _
+          (field-lent 3 _ _ _ _ (lit< tt) (sym (start-data2 (a .f))) refl) p1 (c .before .before .before .before .before .before .before .copy2 .ensures),
+      tfci-taken (a .f) (now (a .xs)) w _ _ (pre .tfci-ok) (c .before .before .copy3 .ensures),
+    )
 
 pub take-spec : {M : Type 1} → statement M
 take-spec =

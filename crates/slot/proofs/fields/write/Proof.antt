@@ -104,7 +104,7 @@ returns c =
     let p2 = tpc-written (a .f) (pre .sound) (a .slot) (a .tpc) (now (a .«data»)) (now (a .tfci)) (pre .data-ok) (pre .tfci-ok) (now (a .out)) (pre .slot-ok) _ _ p1 (c .before .before .before .before .before .before .before .before .before .before .before .before .before .before .before .fill .ensures) in
     let p3 = tfci-written (a .f) (pre .sound) (a .slot) (a .tpc) (now (a .«data»)) (now (a .tfci)) (pre .data-ok) (pre .tfci-ok) (now (a .out)) (pre .slot-ok) _ _ p2 (c .before .before .before .before .before .before .before .before .before .before .before .copy2 .ensures) in
     let p4 =
-        data2-written (a .f) (pre .sound) (a .slot) (a .tpc) (now (a .«data»)) (now (a .tfci)) (pre .data-ok) (pre .tfci-ok) (now (a .out)) (pre .slot-ok) _ _ _ (rest-of (a .f .data1) (now (a .«data»))) p3 (c .before .before .before .before .before .before .copy3 .ensures)
+    data2-written (a .f) (pre .sound) (a .slot) (a .tpc) (now (a .«data»)) (now (a .tfci)) (pre .data-ok) (pre .tfci-ok) (now (a .out)) (pre .slot-ok) _ _ _ (rest-of (a .f .data1) (now (a .«data»))) p3 (c .before .before .before .before .before .before .copy3 .ensures)
     in
     pilot-written (a .f) (pre .sound) (a .slot) (a .tpc) (now (a .«data»)) (now (a .tfci)) (pre .data-ok) (pre .tfci-ok) (now (a .out)) (pre .slot-ok) _ _ p4 (c .before .before .write-pilot .ensures)
 
