@@ -57,6 +57,16 @@ uint64_t slt_pich_map(size_t np, const uint8_t *indicators, size_t n_indicators,
 /* The np indicators of a frame of 300 digits. */
 uint64_t slt_pich_read(size_t np, const uint8_t *frame, size_t n_frame, uint8_t *indicators, size_t n_indicators);
 
+/* DPCH slots (TS 25.211, 5.3.2), normal formats 0 to 16, slots 0 to 14. Field order: Data1, TPC, TFCI, Data2, pilot. */
+
+/* Command, data (Data1 before Data2 in one run) and TFCI into a slot. Order of runs for refusal 3: data, TFCI, output. */
+uint64_t slt_slot_map(size_t format, size_t slot, size_t tpc, const uint8_t *data, size_t n_data, const uint8_t *tfci,
+                      size_t n_tfci, uint8_t *out, size_t n_out);
+
+/* Data and TFCI of a slot, and its TPC command as the value. Order of runs for refusal 3: slot, data, TFCI. */
+uint64_t slt_slot_read(size_t format, size_t slot, const uint8_t *run, size_t n_run, uint8_t *data, size_t n_data,
+                       uint8_t *tfci, size_t n_tfci);
+
 #ifdef __cplusplus
 }
 #endif

@@ -2,14 +2,14 @@
 -- Assumes nothing.
 use mathlib.Core.Path.{_≡_, refl, sym, ap, _∙_}
 use mathlib.Core.Bool.{Bool, true, false, cond}
-use Prim.Native.Nat.{ℕ, _+_, _≤_, _<_}
-use native.Mathlib.Nat.{zero-add}
+use Prim.Native.Nat.{ℕ, zero, suc, _+_, _≤_, _<_, suc-le-suc}
+use native.Mathlib.Nat.{zero-add, not-suc-le-zero, le-of-suc-le-suc}
 use native.Mathlib.Omega.{arith}
 use borrow.Author.Tests.{eqb-true, eqb-false, leb-true, leb-false, le-leb, eq-eqb, ne-eqb}
 use lib.Dec.{eqb, leb, lit<}
 use Rattle.run.specs.declared.Verdict.{Verdict}
 use Rattle.run.specs.First.{firstBad, Every}
-use Rattle.run.specs.Verdicts.{refused, done, orElse, unless, each, leaves, Narrow}
+use Rattle.run.specs.Verdicts.{refused, done, orElse, unless, each, chain, leaves, Narrow}
 use Rattle.run.proofs.First.{first-le, first-none, none-first}
 
 -- the chain is done: its first check is, and so are the others
@@ -65,6 +65,31 @@ pub or-else-next : (v w : Verdict) → v .number ≡ 0 → orElse v w ≡ w
 unfolding orElse
 or-else-next v w h = rw (eq-eqb (v .number) 0 h)
 
+-- a chain of n verdicts: none refuses, or the first that does
+pub chain-pass : (n : ℕ) (v : ℕ → Verdict) → ((k : ℕ) → k < n → v k ≡ done) → chain n v ≡ done
+unfolding chain
+chain-pass zero v h = refl
+chain-pass (suc n) v h = or-else-pass (h 0 (omega arith)) (chain-pass n (λ (k : ℕ). v (suc k)) (λ k l. h (suc k) (suc-le-suc l)))
+
+pub chain-done : (n : ℕ) (v : ℕ → Verdict) → chain n v .number ≡ 0 → (k : ℕ) → k < n → v k .number ≡ 0
+unfolding chain
+chain-done zero v h k l = absurd (not-suc-le-zero l)
+chain-done (suc n) v h zero l = or-else-done _ _ h .first
+chain-done (suc n) v h (suc k) l = chain-done n (λ (j : ℕ). v (suc j)) (or-else-done _ _ h .rest) k (le-of-suc-le-suc l)
+
+pub chain-end : (n : ℕ) (v : ℕ → Verdict) → ((k : ℕ) → k < n → v k .number ≡ 0) → chain n v ≡ done
+unfolding chain
+chain-end zero v h = refl
+chain-end (suc n) v h = or-else-next _ _ (h 0 (omega arith)) ∙ chain-end n (λ (k : ℕ). v (suc k)) (λ k l. h (suc k) (suc-le-suc l))
+
+pub chain-hit : (n : ℕ) (v : ℕ → Verdict) (k : ℕ) → k < n → ((j : ℕ) → j < k → v j .number ≡ 0) → (v k .number ≡ 0 → ⊥) → chain n v ≡ v k
+unfolding chain
+chain-hit zero v k l before h = absurd (not-suc-le-zero l)
+chain-hit (suc n) v zero l before h = or-else-refused _ _ h
+chain-hit (suc n) v (suc k) l before h =
+    or-else-next _ _ (before 0 (omega arith))
+    ∙ chain-hit n (λ (j : ℕ). v (suc j)) k (le-of-suc-le-suc l) (λ j m. before (suc j) (suc-le-suc m)) h
+
 -- a check that counts its places from 0, as a scan's answer gives it
 pub each-here : (number : ℕ) (ok : ℕ → Bool) (n : ℕ) → each 0 number ok n ≡ unless (leb n (firstBad ok n)) number (firstBad ok n)
 unfolding each
@@ -87,6 +112,11 @@ unless-narrow false number place h k = record { number-fits = h; place-fits = k 
 pub each-narrow : (base number : ℕ) (ok : ℕ → Bool) (n : ℕ) → number < 65536 → base + n < 4294967296 → Narrow (each base number ok n)
 unfolding each
 each-narrow base number ok n h k = unless-narrow _ number _ h (let l = first-le ok n in omega arith)
+
+pub chain-narrow : (n : ℕ) (v : ℕ → Verdict) → ((k : ℕ) → k < n → Narrow (v k)) → Narrow (chain n v)
+unfolding chain
+chain-narrow zero v h = record { number-fits = lit< tt; place-fits = lit< tt }
+chain-narrow (suc n) v h = or-else-narrow _ _ (h 0 (omega arith)) (λ _. chain-narrow n (λ (k : ℕ). v (suc k)) (λ k l. h (suc k) (suc-le-suc l)))
 
 -- a check with a number of the table, and what comes after it where it passes
 pub check-narrow : (ok : Bool) (number place : ℕ) (w : Verdict) → 0 < number → number < 65536 → place < 4294967296 → (ok ≡ true → Narrow w) → Narrow (orElse (unless ok number place) w)

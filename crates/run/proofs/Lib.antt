@@ -6,3 +6,4 @@ pub mod Front
 pub mod Over
 pub mod Table
 pub mod Fields
+pub mod Parts

@@ -1,9 +1,9 @@
 -- Tabulated lists: their length and entries; a table's rule from one computed test.
 -- Assumes nothing.
-use mathlib.Core.Path.{_≡_, refl, sym, ap, _∙_}
+use mathlib.Core.Path.{_≡_, refl, sym, ap, ap₂, _∙_}
 use mathlib.Core.Bool.{Bool, true, _&&_}
 use mathlib.Core.List.{List, [], _∷_}
-use Prim.Native.Nat.{ℕ, zero, suc, _+_, _≤_, _<_}
+use Prim.Native.Nat.{ℕ, zero, suc, _+_, _≤_, _<_, suc-le-suc}
 use native.Mathlib.Nat.{not-suc-le-zero, le-of-suc-le-suc}
 use native.Mathlib.Omega.{arith}
 use lib.ListN.{length, getD, take, drop, replicate, length-replicate, getD-replicate, length-drop}
@@ -26,6 +26,12 @@ module _ {A : Type 0} where
   -- a table's rule: one equation that the checker computes over the whole table gives the rule at each entry
   pub table-rule : (xs : List A) (n : ℕ) (f : ℕ → A) → xs ≡ tab n f → (k : ℕ) (d : A) → k < n → getD xs k d ≡ f k
   table-rule xs n f e k d h = ap (λ (l : List A). getD l k d) e ∙ tab-at n f k d h
+
+  -- rules that agree at each of the n places have the same table
+  pub tab-same : (n : ℕ) (f g : ℕ → A) → ((k : ℕ) → k < n → f k ≡ g k) → tab n f ≡ tab n g
+  unfolding tab
+  tab-same zero f g h = refl
+  tab-same (suc n) f g h = ap₂ (λ (x : A) (xs : List A). x ∷ xs) (h 0 (omega arith)) (tab-same n (λ (k : ℕ). f (suc k)) (λ (k : ℕ). g (suc k)) (λ k l. h (suc k) (suc-le-suc l)))
 
   -- a list with the rule's entry at each of its n places is the rule's table
   pub tab-is : (d : A) (s : List A) (n : ℕ) (f : ℕ → A) → length s ≡ n → ((k : ℕ) → k < n → getD s k d ≡ f k) → s ≡ tab n f

@@ -4,4 +4,5 @@ pub mod First
 pub mod Verdicts
 pub mod Table
 pub mod Fields
+pub mod Parts
 pub mod Written

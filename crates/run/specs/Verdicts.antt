@@ -1,6 +1,6 @@
 -- Document 01, 'Numbers a call can return': 'Earlier checks win; within a check the lowest place wins.'
 -- Assumes nothing.
-use Prim.Native.Nat.{ℕ, _+_, _<_}
+use Prim.Native.Nat.{ℕ, zero, suc, _+_, _<_}
 use mathlib.Core.Bool.{Bool, cond}
 use lib.Dec.{eqb, leb}
 use Rattle.run.specs.declared.Verdict.{Verdict}
@@ -24,6 +24,11 @@ unless ok number place = cond ok done (refused number place)
 -- refused at the first of n places at which the test fails; places count from base
 unfoldable pub each : ℕ → ℕ → (ℕ → Bool) → ℕ → Verdict
 each base number ok n = unless (leb n (firstBad ok n)) number (base + firstBad ok n)
+
+-- the first of n verdicts that refuses: 'slot by slot'
+unfoldable pub chain : ℕ → (ℕ → Verdict) → Verdict
+chain zero v = done
+chain (suc n) v = orElse (v 0) (chain n (λ (k : ℕ). v (suc k)))
 
 -- what a lent run holds, or a value is, afterwards: the new where the call is done, the old where it is refused
 unfoldable pub leaves : {A : Type 0} → Verdict → A → A → A

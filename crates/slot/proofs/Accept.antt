@@ -4,10 +4,11 @@ use mathlib.Core.Path.{_≡_}
 use mathlib.Core.List.{List}
 use Prim.Native.Nat.{ℕ, _≤_}
 use native.Mathlib.Omega.{arith}
-use borrow.Author.Tests.{eqb-true, leb-true}
+use borrow.Author.Tests.{eqb-true, leb-true, le-leb}
 use lib.ListN.{length}
 use Rattle.run.specs.First.{Every, atMost, likeFirst, agree}
-use Rattle.run.proofs.Chain.{or-else-done, unless-done, each-done}
+use Rattle.run.specs.Verdicts.{done}
+use Rattle.run.proofs.Chain.{or-else-done, unless-done, each-done, or-else-pass, unless-pass, each-pass}
 use Rattle.dpch.specs.declared.Format.{Format}
 use Rattle.dpch.specs.Formats.{formatOf, silenceAllowed}
 use Rattle.dpch.specs.Pilots.{pilotOf}
@@ -81,6 +82,15 @@ fields-ok format tpc d tfci tpcPlace tfciBase dataBase h =
       data-digits = each-done dataBase 4 _ _ (omega arith) (c3 .rest);
     }
 
+pub fields-pass : (format tpc : ℕ) (d tfci : List ℕ) (tpcPlace tfciBase dataBase : ℕ) → FieldsOk format tpc d tfci
+    → fieldsVerdict format tpc d tfci tpcPlace tfciBase dataBase ≡ done
+unfolding fieldsVerdict
+fields-pass format tpc d tfci tpcPlace tfciBase dataBase k =
+    or-else-pass (unless-pass 5 tpcPlace (le-leb _ _ (k .tpc-ok)))
+    (or-else-pass (each-pass tfciBase 4 _ _ (k .tfci-digits))
+    (or-else-pass (each-pass tfciBase 6 _ _ (k .tfci-kinds))
+    (each-pass dataBase 4 _ _ (k .data-digits))))
+
 -- the digits of a slot
 pub record DigitsOk (format : ℕ) (f : Format) (slot : ℕ) (xs : List ℕ) : Type 0 where
   pub digits : Every (atMost 2 xs) (length xs)
@@ -100,6 +110,14 @@ digits-ok format f slot xs base h =
       kinds = each-done _ 6 _ _ (omega arith) (c3 .first);
       pilot = each-done _ 7 _ _ (omega arith) (c3 .rest);
     }
+
+pub digits-pass : (format : ℕ) (f : Format) (slot : ℕ) (xs : List ℕ) (base : ℕ) → DigitsOk format f slot xs → digitsVerdict format f slot xs base ≡ done
+unfolding digitsVerdict
+digits-pass format f slot xs base k =
+    or-else-pass (each-pass base 4 _ _ (k .digits))
+    (or-else-pass (each-pass _ 5 _ _ (k .alike))
+    (or-else-pass (each-pass _ 6 _ _ (k .kinds))
+    (each-pass _ 7 _ _ (k .pilot))))
 
 -- fields that map takes
 pub record Mapped (format slot tpc : ℕ) (d tfci : List ℕ) (outLength : ℕ) : Type 0 where

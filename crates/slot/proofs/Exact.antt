@@ -29,7 +29,7 @@ use Rattle.slot.specs.Outcome.{mapHead, fieldsVerdict, mapVerdict, Map, 
 use Rattle.slot.specs.Ready.{Sound, Whole, Ready}
 use Rattle.slot.specs.Exact.{Gives, Fields, Exact, ReadExact, Cuts, SlotCuts, Placed, SlotPlaced, MapOnce, ReadOnce, Packs, Marked}
 use Rattle.slot.proofs.Laws.{sound-format, start-data1, start-tpc, start-tfci, start-data2, start-pilot, fields-widths, field-of, slot-length, field-long, data-length, data-small}
-use Rattle.slot.proofs.Accept.{DigitsOk, Mapped, mapped, accepted, map-headed, read-headed}
+use Rattle.slot.proofs.Accept.{fields-pass, DigitsOk, digits-pass, Mapped, mapped, accepted, map-headed, read-headed}
 
 abbrev digit : ℕ → Bool
 digit x = leb x 2
@@ -60,7 +60,7 @@ module _ (format slot : ℕ) (xs : List ℕ) (k : DigitsOk format (formatOf form
       in
       rw (e0, e1, e3, e4)
 
-  read-gives : slotOf (formatOf format) slot (commandIn (formatOf format) xs) (dataIn (formatOf format) xs) (tfciIn (formatOf format) xs) ≡ xs
+  pub read-gives : slotOf (formatOf format) slot (commandIn (formatOf format) xs) (dataIn (formatOf format) xs) (tfciIn (formatOf format) xs) ≡ xs
   unfolding slotOf
   read-gives = ap joined read-fields ∙ joined-cut (widths (formatOf format)) xs (long ∙ sym (sound-format format .fills))
 
@@ -70,7 +70,7 @@ module _ (format slot : ℕ) (xs : List ℕ) (k : DigitsOk format (formatOf form
       subst (λ (s : List ℕ). Every (atMost 2 s) (length s)) (sym (field-is j (widths f) xs h))
       (each-take digit (getD (widths f) j 0) (drop (start j (widths f)) xs) (each-drop digit (start j (widths f)) xs (k .digits)))
 
-  command-bit : commandIn (formatOf format) xs ≤ 1
+  pub command-bit : commandIn (formatOf format) xs ≤ 1
   command-bit =
       let f = formatOf format in
       let n1 = field-long f xs whole 1 (lit< tt) in
@@ -80,8 +80,8 @@ module _ (format slot : ℕ) (xs : List ℕ) (k : DigitsOk format (formatOf form
       let bit = first-no-dtx (tpcIn f xs) here (k .alike) in
       omega arith
 
-  read-maps : mapVerdict format slot (commandIn (formatOf format) xs) (dataIn (formatOf format) xs) (tfciIn (formatOf format) xs) (formatOf format .slot) ≡ done
-  unfolding mapVerdict mapHead fieldsVerdict
+  pub read-maps : mapVerdict format slot (commandIn (formatOf format) xs) (dataIn (formatOf format) xs) (tfciIn (formatOf format) xs) (formatOf format .slot) ≡ done
+  unfolding mapVerdict mapHead
   read-maps =
       let f = formatOf format in
       or-else-pass
@@ -90,10 +90,13 @@ module _ (format slot : ℕ) (xs : List ℕ) (k : DigitsOk format (formatOf form
       (or-else-pass (unless-pass 3 0 (eq-eqb _ _ (data-length f xs whole)))
       (or-else-pass (unless-pass 3 1 (eq-eqb _ _ (field-long f xs whole 2 (lit< tt))))
       (unless-pass 3 2 (eq-eqb (f .slot) (f .slot) refl))))))
-      (or-else-pass (unless-pass 5 0 (le-leb _ _ command-bit))
-      (or-else-pass (each-pass 0 4 _ _ (field-digits 2 (lit< tt)))
-      (or-else-pass (each-pass 0 6 _ _ (k .kinds))
-      (each-pass 0 4 _ _ (each-append digit (field 0 (widths f) xs) (field 3 (widths f) xs) (field-digits 0 (lit< tt)) (field-digits 3 (lit< tt)))))))
+      (fields-pass format _ _ _ 0 0 0
+      (record {
+        tpc-ok = command-bit;
+        tfci-digits = field-digits 2 (lit< tt);
+        tfci-kinds = k .kinds;
+        data-digits = each-append digit (field 0 (widths f) xs) (field 3 (widths f) xs) (field-digits 0 (lit< tt)) (field-digits 3 (lit< tt));
+      }))
 
 -- ---- what mapping gives, reading accepts, and gives the fields back
 module _ (format slot tpc : ℕ) (d tfci : List ℕ) (m : Mapped format slot tpc d tfci (formatOf format .slot)) where
@@ -107,16 +110,16 @@ module _ (format slot tpc : ℕ) (d tfci : List ℕ) (m : Mapped format slot tpc
   unfolding fieldsOf
   tpc-back = back 1
 
-  command-back : commandIn (formatOf format) (slotOf (formatOf format) slot tpc d tfci) ≡ tpc
+  pub command-back : commandIn (formatOf format) (slotOf (formatOf format) slot tpc d tfci) ≡ tpc
   command-back =
       let n = m .head .format-ok in
       ap (λ (l : List ℕ). getD l 0 0) tpc-back ∙ getD-replicate (formatOf format .tpc) 0 tpc 0 (format-sizes format .has-tpc (omega arith))
 
-  tfci-back : tfciIn (formatOf format) (slotOf (formatOf format) slot tpc d tfci) ≡ tfci
+  pub tfci-back : tfciIn (formatOf format) (slotOf (formatOf format) slot tpc d tfci) ≡ tfci
   unfolding fieldsOf
   tfci-back = back 2
 
-  data-back : dataIn (formatOf format) (slotOf (formatOf format) slot tpc d tfci) ≡ d
+  pub data-back : dataIn (formatOf format) (slotOf (formatOf format) slot tpc d tfci) ≡ d
   unfolding fieldsOf
   data-back = rw (back 0, back 3) (take-append-drop (formatOf format .data1) d)
 
@@ -148,8 +151,12 @@ module _ (format slot tpc : ℕ) (d tfci : List ℕ) (m : Mapped format slot tpc
       let some : 0 < formatOf format .tpc = omega arith in
       rw (getD-replicate (formatOf format .tpc) k tpc 0 l, getD-replicate (formatOf format .tpc) 0 tpc 0 some, ne-eqb tpc dtx (λ e. omega arith), eq-eqb tpc tpc refl)
 
-  mapped-accepted : readVerdict format slot (slotOf (formatOf format) slot tpc d tfci) (dataSize (formatOf format)) (formatOf format .tfci) ≡ done
-  unfolding readVerdict readHead digitsVerdict
+  pub mapped-digits-ok : DigitsOk format (formatOf format) slot (slotOf (formatOf format) slot tpc d tfci)
+  mapped-digits-ok =
+      record { digits = mapped-digits; alike = rw tpc-back all-alike; kinds = rw tfci-back (m .fields .tfci-kinds); pilot = diff-none _ _ _ pilot-back }
+
+  pub mapped-accepted : readVerdict format slot (slotOf (formatOf format) slot tpc d tfci) (dataSize (formatOf format)) (formatOf format .tfci) ≡ done
+  unfolding readVerdict readHead
   mapped-accepted =
       let f = formatOf format in
       or-else-pass
@@ -158,10 +165,7 @@ module _ (format slot tpc : ℕ) (d tfci : List ℕ) (m : Mapped format slot tpc
       (or-else-pass (unless-pass 3 0 (eq-eqb _ _ mapped-length))
       (or-else-pass (unless-pass 3 1 (eq-eqb (dataSize f) (dataSize f) refl))
       (unless-pass 3 2 (eq-eqb (f .tfci) (f .tfci) refl))))))
-      (or-else-pass (each-pass 0 4 _ _ mapped-digits)
-      (or-else-pass (each-pass _ 5 _ _ (rw tpc-back all-alike))
-      (or-else-pass (each-pass _ 6 _ _ (rw tfci-back (m .fields .tfci-kinds)))
-      (each-pass _ 7 _ _ (diff-none _ _ _ pilot-back)))))
+      (digits-pass format f slot (slotOf f slot tpc d tfci) 0 mapped-digits-ok)
 
 number-0 : {v : Verdict} → v ≡ done → v .number ≡ 0
 number-0 e = ap (λ (v : Verdict). v .number) e

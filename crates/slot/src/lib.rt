@@ -191,13 +191,16 @@ pub fn take(format: usize, slot: usize, xs: &[u8], data: &mut [u8], tfci: &mut [
 pub fn read(format: usize, slot: usize, xs: &[u8], data: &mut [u8], tfci: &mut [u8]) -> Command
     ensures { λ r. ⌜ Read format slot (now (xs .entry)) (now («data» .entry)) (now (tfci .entry)) r (now («data» .exit)) (now (tfci .exit)) ⌝ }
 {
-    let verdict = read_verdict(format, slot, xs, data.len(), tfci.len());
-    if verdict.number != 0 {
-        return Command { verdict, tpc: 0 };
+    let checked = read_verdict(format, slot, xs, data.len(), tfci.len());
+    if checked.number != 0 {
+        return Command {
+            verdict: checked,
+            tpc: 0,
+        };
     }
     let taken = take(format, slot, xs, data, tfci);
     Command {
-        verdict,
+        verdict: checked,
         tpc: taken.tpc,
     }
 }

@@ -1,0 +1,92 @@
+-- What is known of a frame's lengths, fields and slots where no check refuses them.
+-- Assumes nothing.
+use mathlib.Core.Path.{_≡_}
+use mathlib.Core.List.{List}
+use Prim.Native.Nat.{ℕ, _<_}
+use native.Mathlib.Omega.{arith}
+use borrow.Author.Tests.{eqb-true, leb-true}
+use lib.ListN.{length, getD}
+use Rattle.run.specs.Parts.{part}
+use Rattle.run.proofs.Chain.{or-else-done, unless-done, chain-done}
+use Rattle.run.proofs.Parts.{part-length}
+use Rattle.dpch.specs.Formats.{formatOf}
+use Rattle.slot.specs.Rule.{dataSize}
+use Rattle.slot.proofs.Accept.{FieldsOk, fields-ok, DigitsOk, digits-ok}
+use Rattle.slot.proofs.Exact.{command-bit}
+use Rattle.frame.specs.Outcome.{mapHead, mapVerdict, readHead, readVerdict}
+use Rattle.frame.specs.Ready.{Room, Bits}
+
+pub map-headed : (format dataLength tfciLength outLength commandsLength : ℕ) → mapHead format dataLength tfciLength outLength commandsLength .number ≡ 0
+    → Room format dataLength tfciLength commandsLength outLength
+unfolding mapHead
+map-headed format dataLength tfciLength outLength commandsLength h =
+    let c1 = or-else-done _ _ h in
+    let c2 = or-else-done _ _ (c1 .rest) in
+    let c3 = or-else-done _ _ (c2 .rest) in
+    let c4 = or-else-done _ _ (c3 .rest) in
+    record {
+      format-ok = leb-true _ _ (unless-done _ 1 0 (omega arith) (c1 .first));
+      fields = record {
+        data-ok = eqb-true _ _ (unless-done _ 3 0 (omega arith) (c2 .first));
+        tfci-ok = eqb-true _ _ (unless-done _ 3 1 (omega arith) (c3 .first));
+        commands-ok = eqb-true _ _ (unless-done _ 3 3 (omega arith) (c4 .rest));
+      };
+      frame-ok = eqb-true _ _ (unless-done _ 3 2 (omega arith) (c4 .first));
+    }
+
+pub read-headed : (format frameLength dataLength tfciLength commandsLength : ℕ) → readHead format frameLength dataLength tfciLength commandsLength .number ≡ 0
+    → Room format dataLength tfciLength commandsLength frameLength
+unfolding readHead
+read-headed format frameLength dataLength tfciLength commandsLength h =
+    let c1 = or-else-done _ _ h in
+    let c2 = or-else-done _ _ (c1 .rest) in
+    let c3 = or-else-done _ _ (c2 .rest) in
+    let c4 = or-else-done _ _ (c3 .rest) in
+    record {
+      format-ok = leb-true _ _ (unless-done _ 1 0 (omega arith) (c1 .first));
+      fields = record {
+        data-ok = eqb-true _ _ (unless-done _ 3 1 (omega arith) (c3 .first));
+        tfci-ok = eqb-true _ _ (unless-done _ 3 2 (omega arith) (c4 .first));
+        commands-ok = eqb-true _ _ (unless-done _ 3 3 (omega arith) (c4 .rest));
+      };
+      frame-ok = eqb-true _ _ (unless-done _ 3 0 (omega arith) (c2 .first));
+    }
+
+-- fields that map takes
+pub record Mapped (format : ℕ) (d tfci : List ℕ) (outLength : ℕ) (commands : List ℕ) : Type 0 where
+  pub room : Room format (length d) (length tfci) (length commands) outLength
+  pub slots : (k : ℕ) → k < 15 → FieldsOk format (getD commands k 0) (part k (dataSize (formatOf format)) d) (part k (formatOf format .tfci) tfci)
+
+pub mapped : (format : ℕ) (d tfci : List ℕ) (outLength : ℕ) (commands : List ℕ) → mapVerdict format d tfci outLength commands .number ≡ 0
+    → Mapped format d tfci outLength commands
+unfolding mapVerdict
+mapped format d tfci outLength commands h =
+    let c = or-else-done _ _ h in
+    record {
+      room = map-headed format (length d) (length tfci) outLength (length commands) (c .first);
+      slots = λ k l. fields-ok format _ _ _ _ _ _ (chain-done 15 _ (c .rest) k l);
+    }
+
+-- a frame that read accepts
+pub record Accepted (format : ℕ) (xs : List ℕ) (dataLength tfciLength commandsLength : ℕ) : Type 0 where
+  pub room : Room format dataLength tfciLength commandsLength (length xs)
+  pub slots : (k : ℕ) → k < 15 → DigitsOk format (formatOf format) k (part k (formatOf format .slot) xs)
+
+pub accepted : (format : ℕ) (xs : List ℕ) (dataLength tfciLength commandsLength : ℕ) → readVerdict format xs dataLength tfciLength commandsLength .number ≡ 0
+    → Accepted format xs dataLength tfciLength commandsLength
+unfolding readVerdict
+accepted format xs dataLength tfciLength commandsLength h =
+    let c = or-else-done _ _ h in
+    record {
+      room = read-headed format (length xs) dataLength tfciLength commandsLength (c .first);
+      slots = λ k l. digits-ok format (formatOf format) k (part k (formatOf format .slot) xs) _ (chain-done 15 _ (c .rest) k l);
+    }
+
+-- its commands are bits
+pub accepted-bits : (format : ℕ) (xs : List ℕ) (dataLength tfciLength commandsLength : ℕ) → Accepted format xs dataLength tfciLength commandsLength → Bits format xs
+accepted-bits format xs dataLength tfciLength commandsLength a =
+    record {
+      bit = λ k h.
+          command-bit format k (part k (formatOf format .slot) xs) (a .slots k h) (a .room .format-ok) (omega arith)
+          (part-length k 15 (formatOf format .slot) xs h (a .room .frame-ok));
+    }

@@ -1,0 +1,61 @@
+-- Document 01, 'DPCH slot': what each call on a frame answers and leaves in each lent run, for all inputs.
+-- Assumes nothing.
+use Prim.Native.Nat.{ℕ, _*_}
+use mathlib.Core.Path.{_≡_}
+use mathlib.Core.List.{List}
+use lib.ListN.{length, getD}
+use lib.Dec.{eqb, leb}
+use Rattle.run.specs.declared.Verdict.{Verdict}
+use Rattle.run.specs.Parts.{part}
+use Rattle.run.specs.Refusals.{formatRefused, lengthRefused}
+use Rattle.run.specs.Verdicts.{orElse, unless, chain, leaves}
+use Rattle.dpch.specs.Formats.{formatOf}
+use Rattle.slot.specs.Rule.{dataSize}
+use Rattle.slot.specs.Outcome.{fieldsVerdict, digitsVerdict}
+use Rattle.frame.specs.Rule.{frameOf, dataIn, tfciIn, commandsIn}
+
+-- map: 1, 3 (data, TFCI, output, commands) ..
+unfoldable pub mapHead : ℕ → ℕ → ℕ → ℕ → ℕ → Verdict
+mapHead format dataLength tfciLength outLength commandsLength =
+    orElse (unless (leb format 16) formatRefused 0)
+    (orElse (unless (eqb dataLength (15 * dataSize (formatOf format))) lengthRefused 0)
+    (orElse (unless (eqb tfciLength (15 * formatOf format .tfci)) lengthRefused 1)
+    (orElse (unless (eqb outLength (15 * formatOf format .slot)) lengthRefused 2)
+    (unless (eqb commandsLength 15) lengthRefused 3))))
+
+-- .. then slot by slot, as for a slot: 5 at the slot, the other places in the whole runs
+abbrev pub slotFields : ℕ → List ℕ → List ℕ → List ℕ → ℕ → Verdict
+slotFields format d tfci commands k =
+    fieldsVerdict format (getD commands k 0) (part k (dataSize (formatOf format)) d) (part k (formatOf format .tfci) tfci)
+    k (k * formatOf format .tfci) (k * dataSize (formatOf format))
+
+unfoldable pub mapVerdict : ℕ → List ℕ → List ℕ → ℕ → List ℕ → Verdict
+mapVerdict format d tfci outLength commands =
+    orElse (mapHead format (length d) (length tfci) outLength (length commands)) (chain 15 (slotFields format d tfci commands))
+
+pub record Map (format : ℕ) (d tfci out commands : List ℕ) (answer : Verdict) (out-after : List ℕ) : Type 0 where
+  pub verdict-is : answer ≡ mapVerdict format d tfci (length out) commands
+  pub out-is : out-after ≡ leaves (mapVerdict format d tfci (length out) commands) (frameOf (formatOf format) d tfci commands) out
+
+-- read: 1, 3 (frame, data, TFCI, commands) ..
+unfoldable pub readHead : ℕ → ℕ → ℕ → ℕ → ℕ → Verdict
+readHead format frameLength dataLength tfciLength commandsLength =
+    orElse (unless (leb format 16) formatRefused 0)
+    (orElse (unless (eqb frameLength (15 * formatOf format .slot)) lengthRefused 0)
+    (orElse (unless (eqb dataLength (15 * dataSize (formatOf format))) lengthRefused 1)
+    (orElse (unless (eqb tfciLength (15 * formatOf format .tfci)) lengthRefused 2)
+    (unless (eqb commandsLength 15) lengthRefused 3))))
+
+-- .. then slot by slot, as for a slot; places index the frame
+abbrev pub slotDigits : ℕ → List ℕ → ℕ → Verdict
+slotDigits format xs k = digitsVerdict format (formatOf format) k (part k (formatOf format .slot) xs) (k * formatOf format .slot)
+
+unfoldable pub readVerdict : ℕ → List ℕ → ℕ → ℕ → ℕ → Verdict
+readVerdict format xs dataLength tfciLength commandsLength =
+    orElse (readHead format (length xs) dataLength tfciLength commandsLength) (chain 15 (slotDigits format xs))
+
+pub record Read (format : ℕ) (xs d tfci commands : List ℕ) (answer : Verdict) (d-after tfci-after commands-after : List ℕ) : Type 0 where
+  pub verdict-is : answer ≡ readVerdict format xs (length d) (length tfci) (length commands)
+  pub data-is : d-after ≡ leaves (readVerdict format xs (length d) (length tfci) (length commands)) (dataIn (formatOf format) xs) d
+  pub tfci-is : tfci-after ≡ leaves (readVerdict format xs (length d) (length tfci) (length commands)) (tfciIn (formatOf format) xs) tfci
+  pub commands-is : commands-after ≡ leaves (readVerdict format xs (length d) (length tfci) (length commands)) (commandsIn (formatOf format) xs) commands
