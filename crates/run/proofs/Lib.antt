@@ -4,6 +4,8 @@ pub mod Chain
 pub mod Each
 pub mod Front
 pub mod Over
+pub mod Lent
 pub mod Table
 pub mod Fields
 pub mod Parts
+pub mod Ranges

@@ -6,3 +6,4 @@ pub mod Table
 pub mod Fields
 pub mod Parts
 pub mod Written
+pub mod Ranges

@@ -5,6 +5,7 @@ ghost use lib.Dec.{leb};
 ghost use lib.ListN.{length};
 ghost use Rattle.run.specs.Verdicts.{orElse, unless};
 
+pub mod range;
 pub mod refusal;
 pub mod scan;
 pub mod write;

@@ -1,0 +1,6 @@
+pub mod Signs
+pub mod Folding
+pub mod Laws
+pub mod Reading
+pub mod Checks
+pub mod Exact

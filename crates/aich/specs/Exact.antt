@@ -1,0 +1,68 @@
+-- Demand 2 for the AICH, and what else document 01 says of its signatures and values. Each statement is proved in proofs/Exact.antt under its name in
+-- small letters.
+-- Assumes nothing.
+use Prim.Native.Nat.{ℕ, _+_, _*_, _<_}
+use mathlib.Core.Path.{_≡_}
+use mathlib.Core.Bool.{cond}
+use mathlib.Core.List.{List, [], _∷_, _++_}
+use mathlib.Core.Logic.{_↔_}
+use lib.Dec.{eqb}
+use lib.ListN.{length, replicate}
+use lib.IntN.{ℤ, pos, negsuc, _*ℤ_}
+use Rattle.run.specs.declared.Verdict.{Verdict}
+use Rattle.run.specs.Fields.{joined}
+use Rattle.run.specs.First.{Every}
+use Rattle.run.specs.Ranges.{inRange}
+use Rattle.run.specs.Refusals.{valuesRefused}
+use Rattle.run.specs.Verdicts.{done, refused, Narrow}
+use Rattle.whole.specs.Sum.{sum}
+use Rattle.aich.specs.Rule.{sign, valuesOf, indicatorsIn}
+use Rattle.aich.specs.Outcome.{mapVerdict, Map, readVerdict, Read}
+
+-- the sixteen rows of the table: two at a time they are orthogonal, and each comes in equal pairs
+pub record Rows : Type 0 where
+  pub orthogonal : (s t : ℕ) → s < 16 → t < 16 → sum 32 (λ (j : ℕ). sign s j *ℤ sign t j) ≡ cond (eqb s t) (pos 32) (pos 0)
+  pub pairs : (s k : ℕ) → sign s (2 * k + 1) ≡ sign s (2 * k)
+
+-- indicators give values: map takes them, and this is what it writes
+pub record Gives (indicators values : List ℤ) : Type 0 where
+  pub taken : mapVerdict indicators 32 ≡ done
+  pub written : valuesOf indicators ≡ values
+
+-- read accepts values exactly when some indicators give them, and hands back those, of which there is one set
+pub record Exact (values : List ℤ) : Type 0 where
+  pub accepts : (readVerdict values 16 ≡ done) ↔ ((indicators : List ℤ) × Gives indicators values)
+  pub hands-back : (indicators : List ℤ) → Gives indicators values → indicatorsIn values ≡ indicators
+  pub one-set : (indicators others : List ℤ) → Gives indicators values → Gives others values → indicators ≡ others
+
+abbrev pub ReadExact : Type 0
+ReadExact = (values : List ℤ) → Exact values
+
+-- values that indicators give are 32, each in -16 to 16
+pub record Sized (values : List ℤ) : Type 0 where
+  pub long : length values ≡ 32
+  pub small : Every (inRange (negsuc 15) (pos 16) values) 32
+
+abbrev pub GivenSized : Type 0
+GivenSized = (indicators values : List ℤ) → Gives indicators values → Sized values
+
+-- each promise allows one outcome
+abbrev pub MapOnce : Type 0
+MapOnce =
+    (indicators values : List ℤ) (a b : Verdict) (x y : List ℤ) → Map indicators values a x → Map indicators values b y → (a ≡ b) × (x ≡ y)
+
+abbrev pub ReadOnce : Type 0
+ReadOnce =
+    (values indicators : List ℤ) (a b : Verdict) (x y : List ℤ) → Read values indicators a x → Read values indicators b y → (a ≡ b) × (x ≡ y)
+
+-- number and place fit the 16 and 32 bits that the C boundary has for them
+pub record Packs : Type 0 where
+  pub map-narrow : (indicators : List ℤ) (valuesLength : ℕ) → Narrow (mapVerdict indicators valuesLength)
+  pub read-narrow : (values : List ℤ) (indicatorsLength : ℕ) → Narrow (readVerdict values indicatorsLength)
+
+-- P9, P10 and P11 of document 01, and its other example: 'thirty-one 1s and a -1 give 10'
+pub record Marked : Type 0 where
+  pub p9 : Gives (replicate 16 (pos 1)) (pos 16 ∷ pos 16 ∷ replicate 30 (pos 0))
+  pub p10 : Gives (pos 1 ∷ negsuc 0 ∷ replicate 14 (pos 0)) (joined (replicate 8 (pos 0 ∷ pos 0 ∷ pos 2 ∷ pos 2 ∷ [])))
+  pub p11 : readVerdict (replicate 32 (pos 2)) 16 ≡ refused valuesRefused 0
+  pub unlike : readVerdict (replicate 31 (pos 1) ++ (negsuc 0 ∷ [])) 16 ≡ refused valuesRefused 0

@@ -1,0 +1,50 @@
+-- How the code finds sums over signatures: what its private functions promise. Nothing here is part of a public promise.
+-- Values come in equal pairs, b(s, 2k) = b(s, 2k + 1), so sixteen sums are found and not 32; and those are found by four foldings of the run.
+-- Assumes nothing.
+use Prim.Native.Nat.{ℕ, _+_, _*_, _/_, _%_, _<_}
+use mathlib.Core.Path.{_≡_}
+use mathlib.Core.Bool.{Bool, cond, _&&_, _||_}
+use mathlib.Core.List.{List}
+use lib.Dec.{eqb}
+use lib.ListN.{length, getD}
+use lib.IntN.{ℤ, pos, negsuc, _+ℤ_, _-ℤ_}
+use Rattle.run.specs.Ranges.{between}
+use Rattle.run.specs.Table.{tab}
+use Rattle.whole.specs.Equal.{eqZ}
+use Rattle.whole.specs.Bound.{Bounded}
+use Rattle.aich.specs.Rule.{valueAt, unit}
+
+-- sixteen numbers, each in -B to B
+pub record Sixteen (B : ℕ) (x : List ℤ) : Type 0 where
+  pub long : length x ≡ 16
+  pub small : (k : ℕ) → k < 16 → Bounded B (getD x k (pos 0))
+
+-- entries k and k + 8 become their sum and their difference, side by side
+unfoldable pub foldAt : (ℕ → ℤ) → ℕ → ℤ
+foldAt x k = cond (eqb (k % 2) 0) (x (k / 2) +ℤ x (k / 2 + 8)) (x (k / 2) -ℤ x (k / 2 + 8))
+
+unfoldable pub folded : List ℤ → List ℤ
+folded x = tab 16 (foldAt (λ (k : ℕ). getD x k (pos 0)))
+
+-- one value of each pair that the indicators give
+unfoldable pub halfOf : List ℤ → List ℤ
+halfOf indicators = tab 16 (λ (k : ℕ). valueAt indicators (2 * k))
+
+-- one value of each pair
+unfoldable pub firsts : List ℤ → List ℤ
+firsts values = tab 16 (λ (k : ℕ). getD values (2 * k) (pos 0))
+
+-- pair k is of equal values, in -16 to 16
+unfoldable pub alike : List ℤ → ℕ → Bool
+alike values k = eqZ (getD values (2 * k) (pos 0)) (getD values (2 * k + 1) (pos 0)) && between (negsuc 15) (pos 16) (getD values (2 * k) (pos 0))
+
+-- 16 times an indicator
+unfoldable pub fits16 : ℤ → Bool
+fits16 z = eqZ z (pos 0) || eqZ z (pos 16) || eqZ z (negsuc 15)
+
+abbrev pub fitsAt : List ℤ → ℕ → Bool
+fitsAt sums s = fits16 (getD sums s (pos 0))
+
+-- the indicators of such sums
+unfoldable pub unitsOf : List ℤ → List ℤ
+unitsOf sums = tab 16 (λ (s : ℕ). unit 16 (getD sums s (pos 0)))

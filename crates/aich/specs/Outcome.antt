@@ -1,0 +1,53 @@
+-- Document 01, 'AICH': what each call answers and leaves in each lent run, for all inputs.
+-- Assumes nothing.
+use Prim.Native.Nat.{ℕ}
+use mathlib.Core.Path.{_≡_}
+use mathlib.Core.Bool.{Bool, cond, _&&_}
+use mathlib.Core.List.{List}
+use lib.ListN.{length, getD}
+use lib.Dec.{eqb, leb, ltb}
+use lib.IntN.{ℤ, pos, negsuc}
+use Rattle.run.specs.declared.Verdict.{Verdict}
+use Rattle.run.specs.First.{firstBad}
+use Rattle.run.specs.Ranges.{inRange}
+use Rattle.run.specs.Refusals.{lengthRefused, valuesRefused, rangeRefused}
+use Rattle.run.specs.Verdicts.{orElse, unless, each, leaves}
+use Rattle.whole.specs.Equal.{eqZ}
+use Rattle.aich.specs.Rule.{sign, valueAt, valuesOf, indicatorsIn}
+
+-- sign: table 20 has rows 0 to 15 and columns 0 to 31; outside it the answer is 0
+unfoldable pub signAt : ℕ → ℕ → ℤ
+signAt s j = cond (ltb s 16 && ltb j 32) (sign s j) (pos 0)
+
+-- map: 3 (indicators, values), 11 at the index; an indicator is -1, 0 or +1
+unfoldable pub mapVerdict : List ℤ → ℕ → Verdict
+mapVerdict indicators valuesLength =
+    orElse (unless (eqb (length indicators) 16) lengthRefused 0)
+    (orElse (unless (eqb valuesLength 32) lengthRefused 1)
+    (each 0 rangeRefused (inRange (negsuc 0) (pos 1) indicators) (length indicators)))
+
+pub record Map (indicators values : List ℤ) (answer : Verdict) (values-after : List ℤ) : Type 0 where
+  pub verdict-is : answer ≡ mapVerdict indicators (length values)
+  pub values-is : values-after ≡ leaves (mapVerdict indicators (length values)) (valuesOf indicators) values
+
+-- value j is the one that the indicators give
+abbrev pub agrees : List ℤ → List ℤ → ℕ → Bool
+agrees indicators values j = eqZ (valueAt indicators j) (getD values j (pos 0))
+
+-- all 32 are
+unfoldable pub given : List ℤ → List ℤ → Bool
+given indicators values = leb 32 (firstBad (agrees indicators values) 32)
+
+-- read: 3 (values, indicators) ..
+unfoldable pub readHead : ℕ → ℕ → Verdict
+readHead valuesLength indicatorsLength =
+    orElse (unless (eqb valuesLength 32) lengthRefused 0) (unless (eqb indicatorsLength 16) lengthRefused 1)
+
+-- .. then 10 for values that are not those of the indicators read from them
+unfoldable pub readVerdict : List ℤ → ℕ → Verdict
+readVerdict values indicatorsLength =
+    orElse (readHead (length values) indicatorsLength) (unless (given (indicatorsIn values) values) valuesRefused 0)
+
+pub record Read (values indicators : List ℤ) (answer : Verdict) (indicators-after : List ℤ) : Type 0 where
+  pub verdict-is : answer ≡ readVerdict values (length indicators)
+  pub indicators-is : indicators-after ≡ leaves (readVerdict values (length indicators)) (indicatorsIn values) indicators

@@ -1,0 +1,237 @@
+// The acquisition indicator channel: document 01, 'AICH'; TS 25.211, 5.3.3.7.
+use run::Verdict;
+use run::or_else;
+use run::range;
+use run::refusal;
+use run::unless;
+ghost use mathlib.Core.Path.{_≡_};
+ghost use Prim.Native.Nat.{_<_};
+ghost use lib.ListN.{length};
+ghost use Rattle.run.specs.First.{firstBad};
+ghost use Rattle.aich.specs.Rule.{isPlus, valuesOf, unit};
+ghost use Rattle.aich.specs.Outcome.{signAt, mapVerdict, Map, readHead, Read};
+ghost use Rattle.aich.specs.Method.{Sixteen, folded, halfOf, firsts, alike, fits16, fitsAt, unitsOf};
+
+// Table 20: row s is the signature b(s, 0) .. b(s, 31), + for +1 and - for -1.
+const SIGNATURES: [[u8; 32]; 16] = [
+    *b"++++++++++++++++++++++++++++++++",
+    *b"++--++--++--++--++--++--++--++--",
+    *b"++++----++++----++++----++++----",
+    *b"++----++++----++++----++++----++",
+    *b"++++++++--------++++++++--------",
+    *b"++--++----++--++++--++----++--++",
+    *b"++++--------++++++++--------++++",
+    *b"++----++--++++--++----++--++++--",
+    *b"++++++++++++++++----------------",
+    *b"++--++--++--++----++--++--++--++",
+    *b"++++----++++--------++++----++++",
+    *b"++----++++----++--++++----++++--",
+    *b"++++++++----------------++++++++",
+    *b"++--++----++--++--++--++++--++--",
+    *b"++++--------++++----++++++++----",
+    *b"++----++--++++----++++--++----++",
+];
+
+// b(s, j) is +1, as the table has it.
+fn is_plus(s: usize, j: usize) -> bool
+    requires { ⌜ (s < 16) × (j < 32) ⌝ }
+    ensures { λ r. ⌜ r ≡ isPlus s j ⌝ }
+{
+    SIGNATURES[s][j] == b'+'
+}
+
+// b(s, j), and 0 outside the table.
+pub fn sign(s: usize, j: usize) -> i32
+    ensures { λ r. ⌜ r ≡ signAt s j ⌝ }
+{
+    if 16 <= s {
+        return 0;
+    }
+    if 32 <= j {
+        return 0;
+    }
+    if is_plus(s, j) { 1 } else { -1 }
+}
+
+// Entries i and i + 8 become their sum and their difference, side by side.
+fn fold(x: &[i32]) -> [i32; 16]
+    requires { ⌜ Sixteen 1024 (now x) ⌝ }
+    ensures { λ r. ⌜ r ≡ folded (now (x .entry)) ⌝ }
+{
+    let mut y = [0i32; 16];
+    let mut i = 0;
+    while i < 8 {
+        let a = x[i];
+        let b = x[i + 8];
+        y[2 * i] = a + b;
+        y[2 * i + 1] = a - b;
+        i += 1;
+    }
+    y
+}
+
+// One value of each pair that the indicators give: four foldings are the sums over all signatures.
+fn transform(x: &[i32]) -> [i32; 16]
+    requires { ⌜ Sixteen 16 (now x) ⌝ }
+    ensures { λ r. ⌜ r ≡ halfOf (now (x .entry)) ⌝ }
+{
+    let once = fold(x);
+    let twice = fold(&once);
+    let thrice = fold(&twice);
+    fold(&thrice)
+}
+
+fn map_verdict(indicators: &[i32], values_length: usize) -> Verdict
+    ensures { λ r. ⌜ r ≡ mapVerdict (now (indicators .entry)) «values_length» ⌝ }
+{
+    let n = indicators.len();
+    let i = range::first_outside(indicators, -1, 1);
+    let numbers = unless(n <= i, refusal::RANGE, i);
+    let second = or_else(unless(values_length == 32, refusal::LENGTH, 1), numbers);
+    or_else(unless(n == 16, refusal::LENGTH, 0), second)
+}
+
+// Each sum is the value of a pair.
+fn write_values(indicators: &[i32], values: &mut [i32])
+    requires { ⌜ Sixteen 1 (now indicators) × (length (now values) ≡ 32) ⌝ }
+    ensures { λ _. ⌜ now (values .exit) ≡ valuesOf (now (indicators .entry)) ⌝ }
+{
+    let sums = transform(indicators);
+    let mut j = 0;
+    while j < 32 {
+        values[j] = sums[j / 2];
+        j += 1;
+    }
+}
+
+// The values of the indicators, or the refusal and the values as they were.
+pub fn map(indicators: &[i32], values: &mut [i32]) -> Verdict
+    ensures { λ r. ⌜ Map (now (indicators .entry)) (now (values .entry)) r (now (values .exit)) ⌝ }
+{
+    let verdict = map_verdict(indicators, values.len());
+    if verdict.number != 0 {
+        return verdict;
+    }
+    write_values(indicators, values);
+    verdict
+}
+
+fn read_head(values_length: usize, indicators_length: usize) -> Verdict
+    ensures { λ r. ⌜ r ≡ readHead «values_length» «indicators_length» ⌝ }
+{
+    let second = unless(indicators_length == 16, refusal::LENGTH, 1);
+    or_else(unless(values_length == 32, refusal::LENGTH, 0), second)
+}
+
+// The first pair of unlike values, or of values that no sixteen indicators reach: correlation alone would let it pass.
+fn first_unlike(values: &[i32]) -> usize
+    requires { ⌜ length (now values) ≡ 32 ⌝ }
+    ensures { λ r. ⌜ r ≡ firstBad (alike (now (values .entry))) 16 ⌝ }
+{
+    let mut k = 0;
+    while k < 16 {
+        let a = values[2 * k];
+        let b = values[2 * k + 1];
+        if a != b {
+            return k;
+        }
+        if a < -16 {
+            return k;
+        }
+        if 16 < a {
+            return k;
+        }
+        k += 1;
+    }
+    k
+}
+
+// One value of each pair.
+fn every_second(values: &[i32]) -> [i32; 16]
+    requires { ⌜ length (now values) ≡ 32 ⌝ }
+    ensures { λ r. ⌜ r ≡ firsts (now (values .entry)) ⌝ }
+{
+    let mut each = [0i32; 16];
+    let mut k = 0;
+    while k < 16 {
+        each[k] = values[2 * k];
+        k += 1;
+    }
+    each
+}
+
+// 16 times an indicator.
+fn fits(sum: i32) -> bool
+    ensures { λ r. ⌜ r ≡ fits16 sum ⌝ }
+{
+    if sum == 0 {
+        return true;
+    }
+    if sum == 16 {
+        return true;
+    }
+    sum == -16
+}
+
+// The first signature whose sum is no indicator's.
+fn first_unfit(sums: &[i32]) -> usize
+    requires { ⌜ length (now sums) ≡ 16 ⌝ }
+    ensures { λ r. ⌜ r ≡ firstBad (fitsAt (now (sums .entry))) 16 ⌝ }
+{
+    let mut s = 0;
+    while s < 16 {
+        if !fits(sums[s]) {
+            return s;
+        }
+        s += 1;
+    }
+    s
+}
+
+// The indicator whose sum this is.
+fn unit_of(sum: i32) -> i32
+    ensures { λ r. ⌜ r ≡ unit 16 sum ⌝ }
+{
+    if sum == 16 {
+        return 1;
+    }
+    if sum == -16 {
+        return -1;
+    }
+    0
+}
+
+fn write_indicators(sums: &[i32], indicators: &mut [i32])
+    requires { ⌜ (length (now sums) ≡ 16) × (length (now indicators) ≡ 16) ⌝ }
+    ensures { λ _. ⌜ now (indicators .exit) ≡ unitsOf (now (sums .entry)) ⌝ }
+{
+    let mut s = 0;
+    while s < 16 {
+        indicators[s] = unit_of(sums[s]);
+        s += 1;
+    }
+}
+
+// The indicators of the values, or the refusal and the indicators as they were.
+pub fn read(values: &[i32], indicators: &mut [i32]) -> Verdict
+    ensures { λ r. ⌜ Read (now (values .entry)) (now (indicators .entry)) r (now (indicators .exit)) ⌝ }
+{
+    let head = read_head(values.len(), indicators.len());
+    if head.number != 0 {
+        return head;
+    }
+    let none_gives = Verdict {
+        number: refusal::VALUES,
+        place: 0,
+    };
+    if first_unlike(values) < 16 {
+        return none_gives;
+    }
+    let each = every_second(values);
+    let sums = transform(&each);
+    if first_unfit(&sums) < 16 {
+        return none_gives;
+    }
+    write_indicators(&sums, indicators);
+    head
+}

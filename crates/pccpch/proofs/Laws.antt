@@ -1,0 +1,228 @@
+-- Laws of the position rule, of a frame's digits and slots, and of antenna 2's digits.
+-- Assumes nothing.
+use mathlib.Core.Path.{_≡_, refl, sym, ap, _∙_, subst}
+use mathlib.Core.Bool.{Bool, true, false}
+use mathlib.Core.List.{List}
+use Prim.Native.Nat.{ℕ, zero, suc, _+_, _-_, _*_, _/_, _%_, _≤_, _<_}
+use native.Mathlib.Nat.{not-suc-le-zero}
+use native.Mathlib.Omega.{arith}
+use borrow.Rule.Slice.PartMut.{putMid, midOf}
+use borrow.Author.Tests.{eqb-true, eqb-false, ltb-true, ltb-false}
+use lib.Dec.{eqb, ltb}
+use lib.ListN.{length, getD, set, take, drop, replicate, length-set, length-replicate, getD-replicate, take-append-drop, length-drop}
+use lib.Seq.{getD-set-same, getD-set-other, getD-drop}
+use Rattle.run.specs.Digits.{dtx}
+use Rattle.run.specs.Written.{over}
+use Rattle.run.proofs.Front.{Front, front-none, front-length, front-store, front-lent, front-part, front-all}
+use Rattle.run.proofs.Lent.{part-width, part-length, same-part, front-same, front-copied}
+use Rattle.run.proofs.Table.{tab-length, tab-at}
+use Rattle.sttd.specs.Rule.{sttd, barDigit}
+use Rattle.sttd.specs.Outcome.{encodedOver}
+use Rattle.sttd.proofs.Laws.{sttd-length, sttd-short, sttd-take, sttd-drop, sttd-stretch, tail-kept}
+use Rattle.sttd.proofs.Runs.{encoded-whole}
+use Rattle.pccpch.specs.Rule.{place, filled, frameOf, coded, secondOf, dataIn}
+
+-- ---- the position rule
+pub place-within : (d : ℕ) → d < 270 → place d < 300
+place-within d h = omega arith
+
+pub place-sounds : (d : ℕ) → 2 ≤ place d % 20
+place-sounds d = omega arith
+
+pub place-once : (d e : ℕ) → place d ≡ place e → d ≡ e
+place-once d e h = omega arith
+
+-- the data digit that stands at a place which is not silent
+abbrev pub digitOf : ℕ → ℕ
+digitOf k = 18 * (k / 20) + (k % 20 - 2)
+
+pub digit-within : (k : ℕ) → k < 300 → 2 ≤ k % 20 → digitOf k < 270
+digit-within k h l = omega arith
+
+pub place-digit : (k : ℕ) → 2 ≤ k % 20 → place (digitOf k) ≡ k
+place-digit k l = omega arith
+
+-- silent, or not
+pub split : (k : ℕ) {X : Type 0} → (k % 20 < 2 → X) → (2 ≤ k % 20 → X) → X
+split k {X} f g = side (ltb (k % 20) 2) refl
+  where
+    side : (b : Bool) → ltb (k % 20) 2 ≡ b → X
+    side true e = f (ltb-true _ _ e)
+    side false e = g (ltb-false _ _ e)
+
+-- ---- a frame's digits
+module _ (digits : List ℕ) where
+  filled-length : (n : ℕ) → length (filled digits n) ≡ 300
+  unfolding filled
+  filled-length zero = length-replicate {A = ℕ} 300 2
+  filled-length (suc n) = length-set (filled digits n) (place n) (getD digits n 0) ∙ filled-length n
+
+  filled-silent : (n k : ℕ) → k < 300 → k % 20 < 2 → getD (filled digits n) k 0 ≡ dtx
+  unfolding filled
+  filled-silent zero k h l = getD-replicate {A = ℕ} 300 k 2 0 h
+  filled-silent (suc n) k h l =
+      getD-set-other (filled digits n) (place n) k (getD digits n 0) 0 (λ e. absurd (let z : ⊥ = omega (arith, place-sounds n) in z)) ∙ filled-silent n k h l
+
+  one-more : (n d : ℕ) → n < 270 → d < suc n → (d < n → getD (filled digits n) (place d) 0 ≡ getD digits d 0)
+      → getD (set (filled digits n) (place n) (getD digits n 0)) (place d) 0 ≡ getD digits d 0
+  one-more n d h l before = side (eqb d n) refl
+    where
+      side : (b : Bool) → eqb d n ≡ b → getD (set (filled digits n) (place n) (getD digits n 0)) (place d) 0 ≡ getD digits d 0
+      side true t =
+          let e : d ≡ n = eqb-true _ _ t in
+          let long = filled-length n in
+          rw e (getD-set-same (filled digits n) (place n) (getD digits n 0) 0 (omega arith))
+      side false t =
+          let ne : d ≡ n → ⊥ = eqb-false _ _ t in
+          getD-set-other (filled digits n) (place n) (place d) (getD digits n 0) 0 (λ e. ne (place-once d n e)) ∙ before (omega arith)
+
+  filled-at : (n : ℕ) → n ≤ 270 → (d : ℕ) → d < n → getD (filled digits n) (place d) 0 ≡ getD digits d 0
+  unfolding filled
+  filled-at zero h d l = absurd (not-suc-le-zero l)
+  filled-at (suc n) h d l = one-more n d (omega arith) l (λ m. filled-at n (omega arith) d m)
+
+  pub frame-length : length (frameOf digits) ≡ 300
+  unfolding frameOf
+  frame-length = filled-length 270
+
+  pub frame-silent : (k : ℕ) → k < 300 → k % 20 < 2 → getD (frameOf digits) k 0 ≡ dtx
+  unfolding frameOf
+  frame-silent = filled-silent 270
+
+  pub frame-at : (d : ℕ) → d < 270 → getD (frameOf digits) (place d) 0 ≡ getD digits d 0
+  unfolding frameOf
+  frame-at = filled-at 270 (omega arith)
+
+  -- by the frame's place: what stands there
+  pub frame-digit : (k : ℕ) → k < 300 → 2 ≤ k % 20 → getD (frameOf digits) k 0 ≡ getD digits (digitOf k) 0
+  frame-digit k h l = ap (λ (n : ℕ). getD (frameOf digits) n 0) (sym (place-digit k l)) ∙ frame-at (digitOf k) (digit-within k h l)
+
+pub second-length : (digits : List ℕ) → length (secondOf digits) ≡ 300
+unfolding secondOf
+second-length digits = frame-length (coded digits)
+
+-- ---- the frame as it is written: it starts as DTX, and slot after slot its 18 digits are copied behind its first two
+pub blank : List ℕ
+blank = replicate 300 dtx
+
+blank-length : length blank ≡ 300
+unfolding blank
+blank-length = length-replicate {A = ℕ} 300 2
+
+blank-at : (k : ℕ) → k < 300 → getD blank k 0 ≡ dtx
+unfolding blank
+blank-at k h = getD-replicate {A = ℕ} 300 k 2 0 h
+
+pub frame-starts : (digits : List ℕ) → Front (frameOf digits) blank (replicate 300 dtx) 0
+unfolding blank
+frame-starts digits = front-none (frame-length digits ∙ blank-length)
+
+module _ (digits : List ℕ) (long : length digits ≡ 270) (s : ℕ) (h : s < 15) where
+  -- the slot's 18 digits, where they stand in the frame
+  slot-digits : take 18 (drop (18 * s) digits) ≡ take 18 (drop (20 * s + 2) (frameOf digits))
+  slot-digits =
+      let n = frame-length digits in
+      same-part 0 digits (frameOf digits) (18 * s) (20 * s + 2) 18 (omega arith) (omega arith)
+      (λ j l.
+      let there : place (18 * s + j) ≡ 20 * s + 2 + j = omega arith in
+      sym (frame-at digits (18 * s + j) (omega arith)) ∙ ap (λ (n : ℕ). getD (frameOf digits) n 0) there)
+
+  -- its first two are DTX as they were
+  slot-starts : take 2 (drop (20 * s) (frameOf digits)) ≡ take 2 (drop (20 * s) blank)
+  slot-starts =
+      let n = frame-length digits in
+      let m = blank-length in
+      same-part 0 (frameOf digits) blank (20 * s) (20 * s) 2 (omega arith) (omega arith)
+      (λ j l. frame-silent digits (20 * s + j) (omega arith) (omega arith) ∙ sym (blank-at (20 * s + j) (omega arith)))
+
+  pub slot-written : {frame ys : List ℕ} → Front (frameOf digits) blank frame (20 * s)
+      → ys ≡ over (take (18 * s + 18 - 18 * s) (drop (18 * s) digits)) (midOf (20 * s + 2) (20 * s + 2 + 18 - (20 * s + 2)) frame)
+      → Front (frameOf digits) blank (putMid (20 * s + 2) (20 * s + 2 + 18 - (20 * s + 2)) frame ys) (20 * (s + 1))
+  slot-written {frame} {ys} f e =
+      let n = blank-length in
+      let src : length (take (18 * s + 18 - 18 * s) (drop (18 * s) digits)) ≡ 18 = part-length digits (18 * s) 18 (omega arith) in
+      let is : take (18 * s + 18 - 18 * s) (drop (18 * s) digits) ≡ take 18 (drop (20 * s + 2) (frameOf digits)) =
+      rw (part-width (18 * s) 18) slot-digits
+      in
+      let next : 20 * s + 2 + 18 ≡ 20 * (s + 1) = omega arith in
+      subst (λ (n : ℕ). Front (frameOf digits) blank (putMid (20 * s + 2) (20 * s + 2 + 18 - (20 * s + 2)) frame ys) n) next
+      (front-copied _ (20 * s + 2) 18 (front-same 2 f (omega arith) slot-starts) (omega arith) src is e)
+
+pub frame-ends : (digits : List ℕ) {frame : List ℕ} → Front (frameOf digits) blank frame 300 → frame ≡ frameOf digits
+frame-ends digits f = front-all f (let n = blank-length in omega arith)
+
+pub written-length : (digits : List ℕ) {frame : List ℕ} {a : ℕ} → Front (frameOf digits) blank frame a → length frame ≡ 300
+written-length digits f = front-length f ∙ blank-length
+
+-- ---- the data as it is read, slot after slot
+module _ (frame : List ℕ) where
+  pub data-length : length (dataIn frame) ≡ 270
+  unfolding dataIn
+  data-length = tab-length 270 _
+
+  pub data-at : (d : ℕ) → d < 270 → getD (dataIn frame) d 0 ≡ getD frame (place d) 0
+  unfolding dataIn
+  data-at d h = tab-at 270 _ d 0 h
+
+  module _ (long : length frame ≡ 300) (s : ℕ) (h : s < 15) where
+    slot-read : take 18 (drop (20 * s + 2) frame) ≡ take 18 (drop (18 * s) (dataIn frame))
+    slot-read =
+        let n = data-length in
+        same-part 0 frame (dataIn frame) (20 * s + 2) (18 * s) 18 (omega arith) (omega arith)
+        (λ j l.
+        let there : 20 * s + 2 + j ≡ place (18 * s + j) = omega arith in
+        ap (λ (n : ℕ). getD frame n 0) there ∙ sym (data-at (18 * s + j) (omega arith)))
+
+    pub slot-taken : {d₀ d ys : List ℕ} → length d₀ ≡ 270 → Front (dataIn frame) d₀ d (18 * s)
+        → ys ≡ over (take (20 * s + 2 + 18 - (20 * s + 2)) (drop (20 * s + 2) frame)) (midOf (18 * s) (18 * s + 18 - 18 * s) d)
+        → Front (dataIn frame) d₀ (putMid (18 * s) (18 * s + 18 - 18 * s) d ys) (18 * (s + 1))
+    slot-taken {d₀} {d} {ys} m f e =
+        let src : length (take (20 * s + 2 + 18 - (20 * s + 2)) (drop (20 * s + 2) frame)) ≡ 18 = part-length frame (20 * s + 2) 18 (omega arith) in
+        let is : take (20 * s + 2 + 18 - (20 * s + 2)) (drop (20 * s + 2) frame) ≡ take 18 (drop (18 * s) (dataIn frame)) =
+        rw (part-width (20 * s + 2) 18) slot-read
+        in
+        let next : 18 * s + 18 ≡ 18 * (s + 1) = omega arith in
+        subst (λ (n : ℕ). Front (dataIn frame) d₀ (putMid (18 * s) (18 * s + 18 - 18 * s) d ys) n) next
+        (front-copied _ (18 * s) 18 f (omega arith) src is e)
+
+-- ---- antenna 2's digits
+module _ (digits : List ℕ) (long : length digits ≡ 270) where
+  -- the last two digits are no block, so they are what STTD makes of them: STTD over all of the digits gives the same
+  pub coded-is : coded digits ≡ sttd barDigit digits
+  unfolding coded
+  coded-is =
+      let few : length (drop 268 digits) < 4 = simp length-drop (omega arith) in
+      rw (← sttd-short barDigit (drop 268 digits) few, sttd-take barDigit 67 digits, sttd-drop barDigit 67 digits)
+      (take-append-drop 268 (sttd barDigit digits))
+
+  pub coded-length : length (coded digits) ≡ 270
+  coded-length = ap length coded-is ∙ sttd-length barDigit digits ∙ long
+
+  -- a stretch of whole blocks, as the encoder leaves it in the part that it is lent
+  pub stretch-coded : {d₀ d ys : List ℕ} (a w : ℕ) → a % 4 ≡ 0 → w % 4 ≡ 0 → a + w ≤ 268 → length d₀ ≡ 270 → Front (coded digits) d₀ d a
+      → ys ≡ encodedOver (take (a + w - a) (drop a digits)) (midOf a (a + w - a) d)
+      → Front (coded digits) d₀ (putMid a (a + w - a) d ys) (a + w)
+  stretch-coded {d₀} {d} {ys} a w p q h m f e =
+      let src : length (take (a + w - a) (drop a digits)) ≡ w = part-length digits a w (omega arith) in
+      let lent : length (midOf a (a + w - a) d) ≡ w = front-lent a (a + w) f (omega arith) ∙ part-width a w in
+      let whole : ys ≡ sttd barDigit (take (a + w - a) (drop a digits)) =
+      e ∙ encoded-whole (take (a + w - a) (drop a digits)) (midOf a (a + w - a) d) (rw src q) (lent ∙ sym src)
+      in
+      let there : ys ≡ take (a + w - a) (drop a (coded digits)) =
+      whole ∙ rw (part-width a w, coded-is) (sttd-stretch barDigit digits a w p q)
+      in
+      front-part (a + w) f (omega arith) (omega arith) there
+
+  -- digits 268 and 269
+  pub last-kept : (d : ℕ) → 268 ≤ d → d < 270 → getD digits d 0 ≡ getD (coded digits) d 0
+  last-kept d h l =
+      let is : 268 + (d - 268) ≡ d = omega arith in
+      let kept = tail-kept barDigit digits 67 (omega arith) in
+      rw (coded-is, ← is) (sym (getD-drop 268 digits (d - 268) 0) ∙ ap (λ (t : List ℕ). getD t (d - 268) 0) (sym kept) ∙ getD-drop 268 (sttd barDigit digits) (d - 268) 0)
+
+  pub code-ends : {d₀ d : List ℕ} → length d₀ ≡ 270 → Front (coded digits) d₀ d 268 → set (set d 268 (getD digits 268 0)) 269 (getD digits 269 0) ≡ coded digits
+  code-ends {d₀} {d} m f =
+      let n = front-length f in
+      let f1 = front-store 0 f (omega arith) (last-kept 268 (omega arith) (omega arith)) in
+      let f2 = front-store 0 f1 (simp length-set (omega arith)) (last-kept 269 (omega arith) (omega arith)) in
+      front-all f2 (omega arith)

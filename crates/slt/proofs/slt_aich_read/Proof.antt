@@ -1,0 +1,27 @@
+-- `slt::slt_aich_read` meets its contract: the reader's own answer, packed, which fits the fields.
+-- Assumes nothing.
+use mathlib.Core.Path.{_∙_, ap}
+use lib.Dec.{lit<}
+use Rattle.run.specs.declared.Verdict.{Verdict}
+use Rattle.aich.proofs.Exact.{packs}
+use Rattle.slt.specs.Packed.{packed}
+use borrow.Author.Needs.{needs}
+use Rattle.slt.proofs.slt_aich_read.Statement.{statement}
+use Rattle.slt.proofs.slt_aich_read.Tie as tie
+
+read-requires : tie.Need-read-requires
+read-requires c κs = search needs
+
+pack-requires : tie.Need-pack-requires
+pack-requires c κs = (rw (c .before .read .ensures .verdict-is) (packs .read-narrow _ _), lit< tt)
+
+same-length : tie.Need-same-length
+same-length c = search needs
+
+returns : tie.Need-returns
+returns c =
+    let m = c .before .before .read .ensures in
+    record { answer-is = c .pack .ensures ∙ ap (λ (v : Verdict). packed v 0) (m .verdict-is); indicators-is = m .indicators-is }
+
+pub slt-aich-read-spec : {M : Type 1} → statement M
+slt-aich-read-spec = tie.close (tie.spec read-requires pack-requires same-length returns)

@@ -1,0 +1,35 @@
+-- DPCH frames for C: the answer of the call behind each function, packed, and the same lent runs. The theorems are proved in proofs/Frame.antt.
+-- Assumes nothing.
+use Prim.Native.Nat.{ℕ}
+use mathlib.Core.Path.{_≡_}
+use mathlib.Core.List.{List}
+use lib.ListN.{length}
+use Rattle.run.specs.Verdicts.{leaves}
+use Rattle.dpch.specs.Formats.{formatOf}
+use Rattle.frame.specs.Rule.{frameOf, dataIn, tfciIn, commandsIn}
+use Rattle.frame.specs.Outcome.{mapVerdict, readVerdict}
+use Rattle.slt.specs.Packed.{packed, Tells}
+
+pub record FrameMap (format : ℕ) (d tfci out commands : List ℕ) (answer : ℕ) (out-after : List ℕ) : Type 0 where
+  pub answer-is : answer ≡ packed (mapVerdict format d tfci (length out) commands) 0
+  pub out-is : out-after ≡ leaves (mapVerdict format d tfci (length out) commands) (frameOf (formatOf format) d tfci commands) out
+
+pub record FrameRead (format : ℕ) (xs d tfci commands : List ℕ) (answer : ℕ) (d-after tfci-after commands-after : List ℕ) : Type 0 where
+  pub answer-is : answer ≡ packed (readVerdict format xs (length d) (length tfci) (length commands)) 0
+  pub data-is : d-after ≡ leaves (readVerdict format xs (length d) (length tfci) (length commands)) (dataIn (formatOf format) xs) d
+  pub tfci-is : tfci-after ≡ leaves (readVerdict format xs (length d) (length tfci) (length commands)) (tfciIn (formatOf format) xs) tfci
+  pub commands-is : commands-after ≡ leaves (readVerdict format xs (length d) (length tfci) (length commands)) (commandsIn (formatOf format) xs) commands
+
+-- what an answer tells of the call
+pub record FrameTells : Type 0 where
+  pub map : (format : ℕ) (d tfci out commands : List ℕ) (answer : ℕ) (after : List ℕ) → FrameMap format d tfci out commands answer after
+      → Tells answer (mapVerdict format d tfci (length out) commands) 0
+  pub read : (format : ℕ) (xs d tfci commands : List ℕ) (answer : ℕ) (x t c : List ℕ) → FrameRead format xs d tfci commands answer x t c
+      → Tells answer (readVerdict format xs (length d) (length tfci) (length commands)) 0
+
+-- two outcomes that a promise allows are equal
+pub record FrameOnce : Type 0 where
+  pub map : (format : ℕ) (d tfci out commands : List ℕ) (a b : ℕ) (x y : List ℕ) → FrameMap format d tfci out commands a x → FrameMap format d tfci out commands b y
+      → (a ≡ b) × (x ≡ y)
+  pub read : (format : ℕ) (xs d tfci commands : List ℕ) (a b : ℕ) (x y s t u v : List ℕ) → FrameRead format xs d tfci commands a x s u → FrameRead format xs d tfci commands b y t v
+      → (a ≡ b) × (x ≡ y) × (s ≡ t) × (u ≡ v)

@@ -1,0 +1,29 @@
+-- The P-CCPCH for C: the answer of the call behind each function, packed, and the same lent runs. The theorems are proved in proofs/Pccpch.antt.
+-- Assumes nothing.
+use Prim.Native.Nat.{ℕ}
+use mathlib.Core.Path.{_≡_}
+use mathlib.Core.List.{List}
+use lib.ListN.{length}
+use Rattle.run.specs.Verdicts.{leaves}
+use Rattle.pccpch.specs.Rule.{frameOf, secondOf, dataIn}
+use Rattle.pccpch.specs.Outcome.{mapVerdict, readVerdict}
+use Rattle.slt.specs.Packed.{packed, Tells}
+
+pub record PccpchMap (d antenna1 antenna2 : List ℕ) (answer : ℕ) (antenna1-after antenna2-after : List ℕ) : Type 0 where
+  pub answer-is : answer ≡ packed (mapVerdict d (length antenna1) (length antenna2)) 0
+  pub antenna1-is : antenna1-after ≡ leaves (mapVerdict d (length antenna1) (length antenna2)) (frameOf d) antenna1
+  pub antenna2-is : antenna2-after ≡ leaves (mapVerdict d (length antenna1) (length antenna2)) (secondOf d) antenna2
+
+pub record PccpchRead (antenna1 antenna2 d : List ℕ) (answer : ℕ) (d-after : List ℕ) : Type 0 where
+  pub answer-is : answer ≡ packed (readVerdict antenna1 antenna2 (length d)) 0
+  pub data-is : d-after ≡ leaves (readVerdict antenna1 antenna2 (length d)) (dataIn antenna1) d
+
+-- what an answer tells of the call
+pub record PccpchTells : Type 0 where
+  pub map : (d antenna1 antenna2 : List ℕ) (answer : ℕ) (x y : List ℕ) → PccpchMap d antenna1 antenna2 answer x y → Tells answer (mapVerdict d (length antenna1) (length antenna2)) 0
+  pub read : (antenna1 antenna2 d : List ℕ) (answer : ℕ) (after : List ℕ) → PccpchRead antenna1 antenna2 d answer after → Tells answer (readVerdict antenna1 antenna2 (length d)) 0
+
+-- two outcomes that a promise allows are equal
+pub record PccpchOnce : Type 0 where
+  pub map : (d antenna1 antenna2 : List ℕ) (a b : ℕ) (x y s t : List ℕ) → PccpchMap d antenna1 antenna2 a x s → PccpchMap d antenna1 antenna2 b y t → (a ≡ b) × (x ≡ y) × (s ≡ t)
+  pub read : (antenna1 antenna2 d : List ℕ) (a b : ℕ) (x y : List ℕ) → PccpchRead antenna1 antenna2 d a x → PccpchRead antenna1 antenna2 d b y → (a ≡ b) × (x ≡ y)

@@ -1,0 +1,4 @@
+pub mod Laws
+pub mod Bars
+pub mod Runs
+pub mod Exact

@@ -1,0 +1,34 @@
+-- `sttd::digits` meets its contract.
+-- Assumes nothing.
+use mathlib.Core.Path.{sym, _∙_}
+use borrow.Author.Needs.{needs}
+use Rattle.run.proofs.Chain.{leaves-done, leaves-refused}
+use Rattle.sttd.proofs.Runs.{digits-taken, encoded-whole}
+use Rattle.sttd.proofs.digits.Statement.{statement}
+use Rattle.sttd.proofs.digits.Tie as tie
+
+digits-verdict-requires : tie.Need-digits-verdict-requires
+digits-verdict-requires c κs = search needs
+
+returns : tie.Need-returns
+returns c =
+    let e = c .before .before .digits-verdict .ensures in
+    record { verdict-is = e; out-is = sym (leaves-refused _ _ _ (rw e at (c .if1 .taken))) }
+
+encode-requires : tie.Need-encode-requires
+encode-requires c κs = search needs
+
+same-length : tie.Need-same-length
+same-length c = search needs
+
+returns-2 : tie.Need-returns-2
+returns-2 c =
+    let turn = c .before .before .before .before in
+    let e = turn .before .before .digits-verdict .ensures in
+    let ok = rw e at (turn .if1 .left) in
+    let t = digits-taken _ _ ok in
+    record { verdict-is = e; out-is = c .before .before .encode .ensures ∙ encoded-whole _ _ (t .input-ok) (t .out-ok) ∙ sym (leaves-done _ _ _ ok) }
+
+pub digits-spec : {M : Type 1} → statement M
+digits-spec =
+    tie.close (tie.spec digits-verdict-requires returns encode-requires same-length returns-2)

@@ -1,0 +1,14 @@
+-- `sttd::negated` meets its contract.
+-- Assumes nothing.
+use Rattle.sttd.proofs.Bars.{minus-fits, minus-is}
+use Rattle.sttd.proofs.negated.Statement.{statement}
+use Rattle.sttd.proofs.negated.Tie as tie
+
+sub-result : tie.Need-sub-result
+sub-result c = minus-fits (c .args .v) (c .pre)
+
+returns : tie.Need-returns
+returns c = minus-is (c .args .v) (c .pre)
+
+pub negated-spec : {M : Type 1} → statement M
+negated-spec = tie.close (tie.spec sub-result returns)
