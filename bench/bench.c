@@ -54,5 +54,8 @@ void bench_row(const char *name, way library, way plain, void *context, size_t b
 
 int main(void) {
     bench_dpch();
+    bench_frame();
+    bench_pccpch();
+    bench_aich();
     return 0;
 }

@@ -13,5 +13,8 @@ void bench_row(const char *name, way library, way plain, void *context, size_t b
 
 /* The rows of each channel. */
 void bench_dpch(void);
+void bench_frame(void);
+void bench_pccpch(void);
+void bench_aich(void);
 
 #endif

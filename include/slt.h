@@ -67,6 +67,47 @@ uint64_t slt_slot_map(size_t format, size_t slot, size_t tpc, const uint8_t *dat
 uint64_t slt_slot_read(size_t format, size_t slot, const uint8_t *run, size_t n_run, uint8_t *data, size_t n_data,
                        uint8_t *tfci, size_t n_tfci);
 
+/* DPCH frames: slots 0 to 14 of one format. Data, TFCI and output are fifteen times a slot's; commands are 15 bytes, 0 or 1.
+ * Order of runs for refusal 3: map data, TFCI, output, commands; read frame, data, TFCI, commands. */
+uint64_t slt_frame_map(size_t format, const uint8_t *data, size_t n_data, const uint8_t *tfci, size_t n_tfci, uint8_t *out,
+                       size_t n_out, const uint8_t *commands, size_t n_commands);
+uint64_t slt_frame_read(size_t format, const uint8_t *frame, size_t n_frame, uint8_t *data, size_t n_data, uint8_t *tfci,
+                        size_t n_tfci, uint8_t *commands, size_t n_commands);
+
+/* STTD (TS 25.211, 5.3.1.1.1). Digits: a multiple of 4, at most 4294967295 of them, the output as long as the input. */
+uint64_t slt_sttd_digits(const uint8_t *input, size_t n_input, uint8_t *out, size_t n_out);
+
+/* AICH values: exactly 32, each -16 to 16. */
+uint64_t slt_sttd_values(const int32_t *input, size_t n_input, int32_t *out, size_t n_out);
+
+/* P-CCPCH (TS 25.211, 5.3.3.3.1): 270 data digits, 0 or 1, and a frame of 300 digits for each antenna. */
+uint64_t slt_pccpch_map(const uint8_t *data, size_t n_data, uint8_t *antenna1, size_t n_antenna1, uint8_t *antenna2,
+                        size_t n_antenna2);
+uint64_t slt_pccpch_read(const uint8_t *antenna1, size_t n_antenna1, const uint8_t *antenna2, size_t n_antenna2, uint8_t *data,
+                         size_t n_data);
+
+/* AICH (TS 25.211, 5.3.3.7): 16 indicators -1, 0, +1 and 32 values. */
+uint64_t slt_aich_map(const int32_t *indicators, size_t n_indicators, int32_t *values, size_t n_values);
+uint64_t slt_aich_read(const int32_t *values, size_t n_values, int32_t *indicators, size_t n_indicators);
+
+/* The AICH of two antennas combined: gain parts -4096 to 4096, 32 received parts -1048576 to 1048576 (real and imaginary in turn),
+ * one result for each of the 16 signatures. */
+uint64_t slt_aich_combine(int64_t h1_re, int64_t h1_im, int64_t h2_re, int64_t h2_im, const int32_t *received,
+                          size_t n_received, int64_t *results, size_t n_results);
+
+/* Samples: two whole values -16 to 16 times a level 1/1024 to 1024, rounded once to nearest even; antenna 0 or 1.
+ * The answer is packed as everywhere, with value 0; a refused sample, and one of a transmitter that is off, is +0, +0.
+ * The caller keeps the default rounding mode. */
+typedef struct {
+    uint64_t answer;
+    float inphase;
+    float quadrature;
+} slt_sample;
+
+slt_sample slt_sample_off(int64_t i, int64_t q, size_t antenna);
+slt_sample slt_sample_shared(int64_t i, int64_t q, float level, size_t antenna);
+slt_sample slt_sample_each(int64_t i, int64_t q, float first, float second, size_t antenna);
+
 #ifdef __cplusplus
 }
 #endif

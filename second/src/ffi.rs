@@ -60,3 +60,151 @@ pub fn slot_read(
         slt_slot_read(format, slot, run.pointer(), n_run, data.pointer(), n_data, tfci.pointer(), n_tfci)
     })
 }
+
+// DPCH frame
+
+unsafe extern "C" {
+    fn slt_frame_map(
+        format: usize, data: *const u8, n_data: usize, tfci: *const u8, n_tfci: usize, out: *mut u8, n_out: usize,
+        commands: *const u8, n_commands: usize,
+    ) -> u64;
+    fn slt_frame_read(
+        format: usize, frame: *const u8, n_frame: usize, data: *mut u8, n_data: usize, tfci: *mut u8, n_tfci: usize,
+        commands: *mut u8, n_commands: usize,
+    ) -> u64;
+}
+
+pub fn frame_map(
+    format: usize, data: &mut Lent<u8>, tfci: &mut Lent<u8>, out: &mut Lent<u8>, commands: &mut Lent<u8>,
+) -> Answer {
+    let (n_data, n_tfci, n_out, n_commands) = (data.len(), tfci.len(), out.len(), commands.len());
+    Answer::unpack(unsafe {
+        slt_frame_map(
+            format, data.pointer(), n_data, tfci.pointer(), n_tfci, out.pointer(), n_out, commands.pointer(),
+            n_commands,
+        )
+    })
+}
+
+pub fn frame_read(
+    format: usize, frame: &mut Lent<u8>, data: &mut Lent<u8>, tfci: &mut Lent<u8>, commands: &mut Lent<u8>,
+) -> Answer {
+    let (n_frame, n_data, n_tfci, n_commands) = (frame.len(), data.len(), tfci.len(), commands.len());
+    Answer::unpack(unsafe {
+        slt_frame_read(
+            format, frame.pointer(), n_frame, data.pointer(), n_data, tfci.pointer(), n_tfci, commands.pointer(),
+            n_commands,
+        )
+    })
+}
+
+// STTD
+
+unsafe extern "C" {
+    fn slt_sttd_digits(input: *const u8, n_in: usize, out: *mut u8, n_out: usize) -> u64;
+    fn slt_sttd_values(input: *const i32, n_in: usize, out: *mut i32, n_out: usize) -> u64;
+}
+
+pub fn sttd_digits(input: &mut Lent<u8>, out: &mut Lent<u8>) -> Answer {
+    Answer::unpack(unsafe { slt_sttd_digits(input.pointer(), input.len(), out.pointer(), out.len()) })
+}
+
+pub fn sttd_values(input: &mut Lent<i32>, out: &mut Lent<i32>) -> Answer {
+    Answer::unpack(unsafe { slt_sttd_values(input.pointer(), input.len(), out.pointer(), out.len()) })
+}
+
+// P-CCPCH
+
+unsafe extern "C" {
+    fn slt_pccpch_map(
+        data: *const u8, n_data: usize, antenna1: *mut u8, n1: usize, antenna2: *mut u8, n2: usize,
+    ) -> u64;
+    fn slt_pccpch_read(
+        antenna1: *const u8, n1: usize, antenna2: *const u8, n2: usize, data: *mut u8, n_data: usize,
+    ) -> u64;
+}
+
+pub fn pccpch_map(data: &mut Lent<u8>, antenna1: &mut Lent<u8>, antenna2: &mut Lent<u8>) -> Answer {
+    let (n_data, n1, n2) = (data.len(), antenna1.len(), antenna2.len());
+    Answer::unpack(unsafe {
+        slt_pccpch_map(data.pointer(), n_data, antenna1.pointer(), n1, antenna2.pointer(), n2)
+    })
+}
+
+pub fn pccpch_read(antenna1: &mut Lent<u8>, antenna2: &mut Lent<u8>, data: &mut Lent<u8>) -> Answer {
+    let (n1, n2, n_data) = (antenna1.len(), antenna2.len(), data.len());
+    Answer::unpack(unsafe {
+        slt_pccpch_read(antenna1.pointer(), n1, antenna2.pointer(), n2, data.pointer(), n_data)
+    })
+}
+
+// AICH
+
+unsafe extern "C" {
+    fn slt_aich_map(indicators: *const i32, n_indicators: usize, values: *mut i32, n_values: usize) -> u64;
+    fn slt_aich_read(values: *const i32, n_values: usize, indicators: *mut i32, n_indicators: usize) -> u64;
+}
+
+pub fn aich_map(indicators: &mut Lent<i32>, values: &mut Lent<i32>) -> Answer {
+    Answer::unpack(unsafe {
+        slt_aich_map(indicators.pointer(), indicators.len(), values.pointer(), values.len())
+    })
+}
+
+pub fn aich_read(values: &mut Lent<i32>, indicators: &mut Lent<i32>) -> Answer {
+    Answer::unpack(unsafe {
+        slt_aich_read(values.pointer(), values.len(), indicators.pointer(), indicators.len())
+    })
+}
+
+// AICH combiner
+
+unsafe extern "C" {
+    fn slt_aich_combine(
+        h1_re: i64, h1_im: i64, h2_re: i64, h2_im: i64, received: *const i32, n_received: usize, results: *mut i64,
+        n_results: usize,
+    ) -> u64;
+}
+
+pub fn aich_combine(gains: [i64; 4], received: &mut Lent<i32>, results: &mut Lent<i64>) -> Answer {
+    let [h1_re, h1_im, h2_re, h2_im] = gains;
+    let (n_received, n_results) = (received.len(), results.len());
+    Answer::unpack(unsafe {
+        slt_aich_combine(h1_re, h1_im, h2_re, h2_im, received.pointer(), n_received, results.pointer(), n_results)
+    })
+}
+
+// Samples
+
+/// A sample as the library hands it back, by value.
+#[repr(C)]
+struct RawSample {
+    answer: u64,
+    inphase: f32,
+    quadrature: f32,
+}
+
+unsafe extern "C" {
+    fn slt_sample_off(i: i64, q: i64, antenna: usize) -> RawSample;
+    fn slt_sample_shared(i: i64, q: i64, level: f32, antenna: usize) -> RawSample;
+    fn slt_sample_each(i: i64, q: i64, first: f32, second: f32, antenna: usize) -> RawSample;
+}
+
+/// The answer, and the bit patterns of the in-phase and the quadrature part.
+pub type SampleBits = (Answer, [u32; 2]);
+
+fn in_bits(raw: RawSample) -> SampleBits {
+    (Answer::unpack(raw.answer), [raw.inphase.to_bits(), raw.quadrature.to_bits()])
+}
+
+pub fn sample_off(i: i64, q: i64, antenna: usize) -> SampleBits {
+    in_bits(unsafe { slt_sample_off(i, q, antenna) })
+}
+
+pub fn sample_shared(i: i64, q: i64, level: f32, antenna: usize) -> SampleBits {
+    in_bits(unsafe { slt_sample_shared(i, q, level, antenna) })
+}
+
+pub fn sample_each(i: i64, q: i64, first: f32, second: f32, antenna: usize) -> SampleBits {
+    in_bits(unsafe { slt_sample_each(i, q, first, second, antenna) })
+}

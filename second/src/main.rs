@@ -28,6 +28,12 @@ type Channel = (&'static str, fn(&mut Judge));
 const CHANNELS: &[Channel] = &[
     ("pich", compare::pich::all),
     ("dpch", compare::dpch::all),
+    ("frame", compare::frame::all),
+    ("sttd", compare::sttd::all),
+    ("pccpch", compare::pccpch::all),
+    ("aich", compare::aich::all),
+    ("combiner", compare::combiner::all),
+    ("sample", compare::sample::all),
 ];
 
 fn main() {

@@ -5,4 +5,5 @@ pub mod Frame
 pub mod Sttd
 pub mod Pccpch
 pub mod Aich
+pub mod Combiner
 pub mod Sample

@@ -14,6 +14,8 @@ ghost use Rattle.slt.specs.Frame.{FrameMap, FrameRead};
 ghost use Rattle.slt.specs.Sttd.{SttdDigits, SttdValues};
 ghost use Rattle.slt.specs.Pccpch.{PccpchMap, PccpchRead};
 ghost use Rattle.slt.specs.Aich.{AichMap, AichRead};
+ghost use Rattle.combiner.specs.Complexes.{cx};
+ghost use Rattle.slt.specs.Combiner.{AichCombine};
 ghost use Rattle.slt.specs.Sample.{packedSample, SampleOff, SampleShared, SampleEach};
 
 // Number in bits 0 to 15, place in bits 16 to 47, value in bits 48 to 63.
@@ -143,6 +145,13 @@ pub extern "C" fn slt_aich_read(values: &[i32], indicators: &mut [i32]) -> u64
     ensures { λ r. ⌜ AichRead (now (values .entry)) (now (indicators .entry)) r (now (indicators .exit)) ⌝ }
 {
     pack(aich::read(values, indicators), 0)
+}
+
+#[no_mangle]
+pub extern "C" fn slt_aich_combine(h1_re: i64, h1_im: i64, h2_re: i64, h2_im: i64, received: &[i32], results: &mut [i64]) -> u64
+    ensures { λ r. ⌜ AichCombine (cx «h1_re» «h1_im») (cx «h2_re» «h2_im») (now (received .entry)) (now (results .entry)) r (now (results .exit)) ⌝ }
+{
+    pack(combiner::combine(h1_re, h1_im, h2_re, h2_im, received, results), 0)
 }
 
 // A sample for C: number and place packed, with value 0, and the two parts beside them. An enum cannot cross to C, so there is a call for each setting.

@@ -2,8 +2,14 @@
 //!
 //! In every comparison `None` for a run is NULL with length 0.
 
+pub mod aich;
+pub mod combiner;
 pub mod dpch;
+pub mod frame;
+pub mod pccpch;
 pub mod pich;
+pub mod sample;
+pub mod sttd;
 
 /// Lengths to try for a run: the right one, near it, far from it, and equal to it in the low 8 or 16 bits. `None` is
 /// NULL.

@@ -3,5 +3,11 @@
 //! A rule takes what the call is given: numbers, the runs it reads, and the lengths of the runs it is to write. It
 //! answers the runs it would write, or the refusal. Numbers of refusals stand as digits, as they do in the document.
 
+pub mod aich;
+pub mod combiner;
 pub mod dpch;
+pub mod frame;
+pub mod pccpch;
 pub mod pich;
+pub mod sample;
+pub mod sttd;

@@ -1,0 +1,106 @@
+/* AICH and its combiner in plain C. b(s,j) depends on s and floor(j/2) alone and is the sign of a 16 by 16 Hadamard
+ * matrix, so sums over it are four rounds of sums and differences. */
+#include "plain.h"
+
+#include "plain_parts.h"
+
+enum { SIGNATURES = 16, VALUES = 32, GAIN_LIMIT = 4096, RECEIVED_LIMIT = 1048576 };
+
+/* One round: the sums of neighbours, and behind them their differences. */
+static void fold(const int32_t *x, int32_t *y) {
+    for (size_t i = 0; i < SIGNATURES / 2; i++) {
+        y[i] = x[2 * i] + x[2 * i + 1];
+        y[i + SIGNATURES / 2] = x[2 * i] - x[2 * i + 1];
+    }
+}
+
+static void transform(int32_t *x) {
+    int32_t y[SIGNATURES];
+    fold(x, y);
+    fold(y, x);
+    fold(x, y);
+    fold(y, x);
+}
+
+static void fold_wide(const int64_t *x, int64_t *y) {
+    for (size_t i = 0; i < SIGNATURES / 2; i++) {
+        y[i] = x[2 * i] + x[2 * i + 1];
+        y[i + SIGNATURES / 2] = x[2 * i] - x[2 * i + 1];
+    }
+}
+
+static void transform_wide(int64_t *x) {
+    int64_t y[SIGNATURES];
+    fold_wide(x, y);
+    fold_wide(y, x);
+    fold_wide(x, y);
+    fold_wide(y, x);
+}
+
+uint64_t plain_aich_map(const int32_t *indicators, size_t n_indicators, int32_t *values, size_t n_values) {
+    int32_t sums[SIGNATURES];
+    if (n_indicators != SIGNATURES) return refuse(3, 0);
+    if (n_values != VALUES) return refuse(3, 1);
+    for (size_t s = 0; s < SIGNATURES; s++) {
+        if (indicators[s] < -1 || indicators[s] > 1) return refuse(11, s);
+        sums[s] = indicators[s];
+    }
+    transform(sums);
+    for (size_t k = 0; k < SIGNATURES; k++) {
+        values[2 * k] = sums[k];
+        values[2 * k + 1] = sums[k];
+    }
+    return 0;
+}
+
+/* The transform of the transform is 16 times what it was, so values are given by indicators exactly when their
+ * transform is -16, 0 and 16. No indicators give a value beyond 16, and within it no sum overflows. */
+uint64_t plain_aich_read(const int32_t *values, size_t n_values, int32_t *indicators, size_t n_indicators) {
+    int32_t sums[SIGNATURES];
+    if (n_values != VALUES) return refuse(3, 0);
+    if (n_indicators != SIGNATURES) return refuse(3, 1);
+    for (size_t k = 0; k < SIGNATURES; k++) {
+        int32_t value = values[2 * k];
+        if (value != values[2 * k + 1] || value < -16 || value > 16) return refuse(10, 0);
+        sums[k] = value;
+    }
+    transform(sums);
+    for (size_t s = 0; s < SIGNATURES; s++) {
+        if (sums[s] != -16 && sums[s] != 0 && sums[s] != 16) return refuse(10, 0);
+    }
+    for (size_t s = 0; s < SIGNATURES; s++) {
+        indicators[s] = sums[s] / 16;
+    }
+    return 0;
+}
+
+/* For each symbol of T, its real part plus its imaginary part: both meet the same signs. */
+static void combine_pairs(const int64_t *h, const int32_t *received, int64_t *sums) {
+    for (size_t m = 0; m < SIGNATURES / 2; m++) {
+        int64_t r1_re = received[4 * m], r1_im = received[4 * m + 1];
+        int64_t r2_re = received[4 * m + 2], r2_im = received[4 * m + 3];
+        int64_t t1_re = h[0] * r1_re + h[1] * r1_im + h[2] * r2_re + h[3] * r2_im;
+        int64_t t1_im = h[0] * r1_im - h[1] * r1_re + h[3] * r2_re - h[2] * r2_im;
+        int64_t t2_re = h[0] * r2_re + h[1] * r2_im - h[2] * r1_re - h[3] * r1_im;
+        int64_t t2_im = h[0] * r2_im - h[1] * r2_re - h[3] * r1_re + h[2] * r1_im;
+        sums[2 * m] = t1_re + t1_im;
+        sums[2 * m + 1] = t2_re + t2_im;
+    }
+}
+
+uint64_t plain_aich_combine(int64_t h1_re, int64_t h1_im, int64_t h2_re, int64_t h2_im, const int32_t *received,
+                            size_t n_received, int64_t *results, size_t n_results) {
+    int64_t h[4] = {h1_re, h1_im, h2_re, h2_im};
+    if (n_received != VALUES) return refuse(3, 0);
+    if (n_results != SIGNATURES) return refuse(3, 1);
+    for (size_t i = 0; i < 4; i++) {
+        if (h[i] < -GAIN_LIMIT || h[i] > GAIN_LIMIT) return refuse(11, i);
+    }
+    for (size_t i = 0; i < VALUES; i++) {
+        if (received[i] < -RECEIVED_LIMIT || received[i] > RECEIVED_LIMIT) return refuse(11, 4 + i);
+    }
+    if (h1_re == 0 && h1_im == 0 && h2_re == 0 && h2_im == 0) return refuse(12, 0);
+    combine_pairs(h, received, results);
+    transform_wide(results);
+    return 0;
+}

@@ -1,0 +1,46 @@
+/* DPCH frames in plain C: slots 0 to 14 of one format. All slots are checked before the first is written. */
+#include "plain.h"
+
+#include "plain_slot.h"
+
+enum { SLOTS = 15 };
+
+uint64_t plain_frame_map(size_t format, const uint8_t *data, size_t n_data, const uint8_t *tfci, size_t n_tfci,
+                         uint8_t *out, size_t n_out, const uint8_t *commands, size_t n_commands) {
+    if (format > 16) return refuse(1, 0);
+    const struct format *f = &FORMATS[format];
+    size_t slot_data = (size_t)f->data1 + f->data2;
+    if (n_data != SLOTS * slot_data) return refuse(3, 0);
+    if (n_tfci != (size_t)SLOTS * f->tfci) return refuse(3, 1);
+    if (n_out != (size_t)SLOTS * f->slot) return refuse(3, 2);
+    if (n_commands != SLOTS) return refuse(3, 3);
+    for (size_t slot = 0; slot < SLOTS; slot++) {
+        uint64_t refusal = check_fields(format, slot, commands[slot], data, tfci);
+        if (refusal) return refusal;
+    }
+    for (size_t slot = 0; slot < SLOTS; slot++) {
+        write_slot(f, slot, commands[slot], data + slot * slot_data, tfci + slot * f->tfci, out + slot * f->slot);
+    }
+    return 0;
+}
+
+uint64_t plain_frame_read(size_t format, const uint8_t *frame, size_t n_frame, uint8_t *data, size_t n_data,
+                          uint8_t *tfci, size_t n_tfci, uint8_t *commands, size_t n_commands) {
+    if (format > 16) return refuse(1, 0);
+    const struct format *f = &FORMATS[format];
+    size_t slot_data = (size_t)f->data1 + f->data2;
+    if (n_frame != (size_t)SLOTS * f->slot) return refuse(3, 0);
+    if (n_data != SLOTS * slot_data) return refuse(3, 1);
+    if (n_tfci != (size_t)SLOTS * f->tfci) return refuse(3, 2);
+    if (n_commands != SLOTS) return refuse(3, 3);
+    for (size_t slot = 0; slot < SLOTS; slot++) {
+        uint64_t refusal = check_slot(format, slot, frame + slot * f->slot, slot * f->slot);
+        if (refusal) return refusal;
+    }
+    for (size_t slot = 0; slot < SLOTS; slot++) {
+        const uint8_t *run = frame + slot * f->slot;
+        take_fields(f, run, data + slot * slot_data, tfci + slot * f->tfci);
+        commands[slot] = run[f->data1];
+    }
+    return 0;
+}

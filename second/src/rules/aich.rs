@@ -1,0 +1,91 @@
+//! AICH.
+
+use crate::answer::{Refusal, refuse};
+
+pub const SIGNATURES: usize = 16;
+pub const VALUES: usize = 32;
+
+/// b(s,j) is +1 exactly when s and floor(j/2) have an even number of one bits in common, else -1.
+pub fn b(s: usize, j: usize) -> i64 {
+    let in_common = (s & (j / 2)).count_ones();
+    if in_common.is_multiple_of(2) { 1 } else { -1 }
+}
+
+/// a(j) = sum over s of indicator(s)·b(s,j).
+fn mapped(indicators: &[i32]) -> Vec<i32> {
+    let a = |j: usize| (0..SIGNATURES).map(|s| i64::from(indicators[s]) * b(s, j)).sum::<i64>();
+    (0..VALUES).map(|j| a(j) as i32).collect()
+}
+
+/// 3 (indicators, values), 11 at the index.
+pub fn map(indicators: &[i32], n_values: usize) -> Result<Vec<i32>, Refusal> {
+    if indicators.len() != SIGNATURES {
+        return refuse(3, 0);
+    }
+    if n_values != VALUES {
+        return refuse(3, 1);
+    }
+    for s in 0..SIGNATURES {
+        if indicators[s] < -1 || indicators[s] > 1 {
+            return refuse(11, s);
+        }
+    }
+    Ok(mapped(indicators))
+}
+
+/// 3 (values, indicators), 10.
+///
+/// The only indicators that can have given the values are 1/32 of the correlations, since two different rows of b
+/// agree as often as they differ. But values that no indicators give have correlations too, so what the indicators
+/// give is worked out and compared.
+pub fn read(values: &[i32], n_indicators: usize) -> Result<Vec<i32>, Refusal> {
+    if values.len() != VALUES {
+        return refuse(3, 0);
+    }
+    if n_indicators != SIGNATURES {
+        return refuse(3, 1);
+    }
+    let mut indicators = Vec::new();
+    for s in 0..SIGNATURES {
+        let correlation: i64 = (0..VALUES).map(|j| i64::from(values[j]) * b(s, j)).sum();
+        match correlation {
+            -32 => indicators.push(-1),
+            0 => indicators.push(0),
+            32 => indicators.push(1),
+            _ => return refuse(10, 0),
+        }
+    }
+    if mapped(&indicators) != values {
+        return refuse(10, 0);
+    }
+    Ok(indicators)
+}
+
+#[cfg(test)]
+mod tests {
+    use super::{map, read};
+    use crate::answer::refuse;
+
+    #[test]
+    fn marked_example_p9() {
+        let values = map(&[1; 16], 32).unwrap();
+        assert_eq!(values[..2], [16, 16]);
+        assert_eq!(values[2..], [0; 30]);
+    }
+
+    #[test]
+    fn marked_example_p10() {
+        let mut indicators = [0; 16];
+        indicators[0] = 1;
+        indicators[1] = -1;
+        assert_eq!(map(&indicators, 32), Ok([0, 0, 2, 2].repeat(8)));
+    }
+
+    #[test]
+    fn marked_example_p11_and_another() {
+        assert_eq!(read(&[2; 32], 16), refuse(10, 0));
+        let mut values = [1; 32];
+        values[31] = -1;
+        assert_eq!(read(&values, 16), refuse(10, 0));
+    }
+}

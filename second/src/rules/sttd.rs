@@ -1,0 +1,63 @@
+//! STTD.
+
+use crate::answer::{Refusal, refuse};
+
+/// How many values an AICH run has.
+pub const VALUES: usize = 32;
+
+/// The bar of a digit swaps 0 with 1 and leaves 2.
+pub fn bar(digit: u8) -> u8 {
+    match digit {
+        0 => 1,
+        1 => 0,
+        other => other,
+    }
+}
+
+/// Digits b0 b1 b2 b3 on antenna 1 give, on antenna 2: bar b2, b3, b0, bar b1.
+pub fn block(b: &[u8]) -> [u8; 4] {
+    [bar(b[2]), b[3], b[0], bar(b[1])]
+}
+
+/// 3 (input: a multiple of 4, 0 included; output: as long as the input), 4 above 2.
+pub fn digits(input: &[u8], n_out: usize) -> Result<Vec<u8>, Refusal> {
+    if !input.len().is_multiple_of(4) {
+        return refuse(3, 0);
+    }
+    if n_out != input.len() {
+        return refuse(3, 1);
+    }
+    for index in 0..input.len() {
+        if input[index] > 2 {
+            return refuse(4, index);
+        }
+    }
+    Ok(input.chunks(4).flat_map(block).collect())
+}
+
+/// Exactly 32 values, each -16 to 16; the bar is negation. 3 (input, output), then 11 at the index.
+pub fn values(input: &[i32], n_out: usize) -> Result<Vec<i32>, Refusal> {
+    if input.len() != VALUES {
+        return refuse(3, 0);
+    }
+    if n_out != VALUES {
+        return refuse(3, 1);
+    }
+    for index in 0..VALUES {
+        if input[index] < -16 || input[index] > 16 {
+            return refuse(11, index);
+        }
+    }
+    Ok(input.chunks(4).flat_map(|b| [-b[2], b[3], b[0], -b[1]]).collect())
+}
+
+#[cfg(test)]
+mod tests {
+    use super::digits;
+
+    #[test]
+    fn marked_examples_p5_and_p6() {
+        assert_eq!(digits(&[0, 0, 0, 1], 4), Ok(vec![1, 1, 0, 1]));
+        assert_eq!(digits(&[1, 2, 0, 2], 4), Ok(vec![1, 2, 1, 2]));
+    }
+}
