@@ -15,7 +15,7 @@ pub const DTX: u8 = 2;
 
 // What a call answers: 0 and 0 where it is done, else the refusal's number and place.
 pub struct Verdict {
-    pub number: u8,
+    pub number: usize,
     pub place: usize,
 }
 
@@ -27,7 +27,7 @@ pub fn or_else(v: Verdict, w: Verdict) -> Verdict
 }
 
 // Refused with this number and place where the test fails.
-pub fn unless(ok: bool, number: u8, place: usize) -> Verdict
+pub fn unless(ok: bool, number: usize, place: usize) -> Verdict
     ensures { λ r. ⌜ r ≡ unless ok number place ⌝ }
 {
     if ok {
@@ -41,7 +41,7 @@ pub fn unless(ok: bool, number: u8, place: usize) -> Verdict
 }
 
 // Refused at place i of the run, counted from `base`, where i is one of its places: what a scan's answer means.
-pub fn found(s: &[u8], i: usize, number: u8, base: u32) -> Verdict
+pub fn found(s: &[u8], i: usize, number: usize, base: u32) -> Verdict
     ensures { λ r. ⌜ r ≡ unless (leb (length (now (s .entry))) i) number (base + i) ⌝ }
 {
     if s.len() <= i {

@@ -80,7 +80,7 @@ fn pilot_differs(s: &[u8], slot: usize) -> usize
 }
 
 // Refused at place i of a field that begins at `start` of a slot that begins at `base`.
-fn placed(s: &[u8], i: usize, number: u8, base: u32, start: usize) -> Verdict
+fn placed(s: &[u8], i: usize, number: usize, base: u32, start: usize) -> Verdict
     requires { ⌜ start ≤ 1280 ⌝ }
     ensures { λ r. ⌜ r ≡ unless (leb (length (now (s .entry))) i) number (base + start + i) ⌝ }
 {

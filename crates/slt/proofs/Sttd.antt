@@ -31,12 +31,12 @@ pub sttd-tells : SttdTells
 sttd-tells =
     record {
       digits = λ input out answer after p. tells _ (p .answer-is) (short-narrow input _) (lit< tt);
-      values = λ input out answer after p. tells _ (p .answer-is) (packs .values-narrow input _) (lit< tt)
+      values = λ input out answer after p. tells _ (p .answer-is) (packs .values-narrow input _) (lit< tt);
     }
 
 pub sttd-once : SttdOnce
 sttd-once =
     record {
       digits = λ input out a b x y p r. (one-outcome (p .answer-is) (r .answer-is), one-outcome (p .out-is) (r .out-is));
-      values = λ input out a b x y p r. (one-outcome (p .answer-is) (r .answer-is), one-outcome (p .out-is) (r .out-is))
+      values = λ input out a b x y p r. (one-outcome (p .answer-is) (r .answer-is), one-outcome (p .out-is) (r .out-is));
     }

@@ -82,14 +82,26 @@ pub extern "C" fn slt_slot_read(
 }
 
 #[no_mangle]
-pub extern "C" fn slt_frame_map(format: usize, data: &[u8], tfci: &[u8], out: &mut [u8], commands: &[u8]) -> u64
+pub extern "C" fn slt_frame_map(
+    format: usize,
+    data: &[u8],
+    tfci: &[u8],
+    out: &mut [u8],
+    commands: &[u8],
+) -> u64
     ensures { λ r. ⌜ FrameMap format (now («data» .entry)) (now (tfci .entry)) (now (out .entry)) (now (commands .entry)) r (now (out .exit)) ⌝ }
 {
     pack(frame::map(format, data, tfci, out, commands), 0)
 }
 
 #[no_mangle]
-pub extern "C" fn slt_frame_read(format: usize, frame: &[u8], data: &mut [u8], tfci: &mut [u8], commands: &mut [u8]) -> u64
+pub extern "C" fn slt_frame_read(
+    format: usize,
+    frame: &[u8],
+    data: &mut [u8],
+    tfci: &mut [u8],
+    commands: &mut [u8],
+) -> u64
     ensures { λ r. ⌜ FrameRead format (now (frame .entry)) (now («data» .entry)) (now (tfci .entry)) (now (commands .entry)) r (now («data» .exit)) (now (tfci .exit)) (now (commands .exit)) ⌝ }
 {
     pack(frame::read(format, frame, data, tfci, commands), 0)
@@ -148,10 +160,20 @@ pub extern "C" fn slt_aich_read(values: &[i32], indicators: &mut [i32]) -> u64
 }
 
 #[no_mangle]
-pub extern "C" fn slt_aich_combine(h1_re: i64, h1_im: i64, h2_re: i64, h2_im: i64, received: &[i32], results: &mut [i64]) -> u64
+pub extern "C" fn slt_aich_combine(
+    h1_re: i64,
+    h1_im: i64,
+    h2_re: i64,
+    h2_im: i64,
+    received: &[i32],
+    results: &mut [i64],
+) -> u64
     ensures { λ r. ⌜ AichCombine (cx «h1_re» «h1_im») (cx «h2_re» «h2_im») (now (received .entry)) (now (results .entry)) r (now (results .exit)) ⌝ }
 {
-    pack(combiner::combine(h1_re, h1_im, h2_re, h2_im, received, results), 0)
+    pack(
+        combiner::combine(h1_re, h1_im, h2_re, h2_im, received, results),
+        0,
+    )
 }
 
 // A sample for C: number and place packed, with value 0, and the two parts beside them. An enum cannot cross to C, so there is a call for each setting.

@@ -24,14 +24,13 @@ returns : tie.Need-returns
 returns c =
     let s = c .before .before .before .before in
     let m =
-        rw
-        (
-          toZ-ofZ w64 (s .args .h1-re) (s .fits .h1-re),
-          toZ-ofZ w64 (s .args .h1-im) (s .fits .h1-im),
-          toZ-ofZ w64 (s .args .h2-re) (s .fits .h2-re),
-          toZ-ofZ w64 (s .args .h2-im) (s .fits .h2-im)
-        )
-        at (c .before .before .combine .ensures)
+    rw (
+      toZ-ofZ w64 (s .args .h1-re) (s .fits .h1-re),
+      toZ-ofZ w64 (s .args .h1-im) (s .fits .h1-im),
+      toZ-ofZ w64 (s .args .h2-re) (s .fits .h2-re),
+      toZ-ofZ w64 (s .args .h2-im) (s .fits .h2-im),
+    )
+    at (c .before .before .combine .ensures)
     in
     record { answer-is = c .pack .ensures ∙ ap (λ (v : Verdict). packed v 0) (m .verdict-is); results-is = m .results-is }
 

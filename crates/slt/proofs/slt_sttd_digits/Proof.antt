@@ -23,7 +23,7 @@ returns c =
     let long = too-long (now (c .before .before .before .before .args .input)) (length (now (c .before .before .before .before .args .out))) (c .before .if1 .taken) in
     record {
       answer-is = c .pack .ensures ∙ ap (λ (v : Verdict). packed v 0) (sym long);
-      out-is = sym (leaves-refused _ _ _ (λ e. let z : _≡_ {A = ℕ} 3 0 = rw long at e in omega arith))
+      out-is = sym (leaves-refused _ _ _ (λ e. let z : _≡_ {A = ℕ} 3 0 = rw long at e in omega arith));
     }
 
 digits-requires : tie.Need-digits-requires
@@ -41,7 +41,7 @@ returns-2 c =
     let short = short-enough (now (c .before .before .before .before .before .before .before .before .args .input)) (length (now (c .before .before .before .before .before .before .before .before .args .out))) (c .before .before .before .before .before .if1 .left) in
     record {
       answer-is = c .pack2 .ensures ∙ ap (λ (v : Verdict). packed v 0) (m .verdict-is ∙ sym short);
-      out-is = rw short (m .out-is)
+      out-is = rw short (m .out-is);
     }
 
 pub slt-sttd-digits-spec : {M : Type 1} → statement M
