@@ -50,6 +50,31 @@ static int paging(void) {
     return 0;
 }
 
+/* A slot of format 1 from its fields, read back, and with one pilot digit damaged. */
+static int slot(void) {
+    const uint8_t data[2] = {1, 0}, tfci[2] = {0, 1};
+    uint8_t digits[10], data_back[2], tfci_back[2];
+
+    uint64_t mapped = slt_slot_map(1, 1, 1, data, sizeof data, tfci, sizeof tfci, digits, sizeof digits);
+    print_answer("slt_slot_map", mapped);
+    if (SLT_NUMBER(mapped) != SLT_DONE) {
+        return 1;
+    }
+    print_digits("slot", digits, sizeof digits);
+
+    uint64_t read = slt_slot_read(1, 1, digits, sizeof digits, data_back, sizeof data_back, tfci_back, sizeof tfci_back);
+    print_answer("slt_slot_read", read);
+    if (SLT_NUMBER(read) != SLT_DONE || memcmp(data, data_back, sizeof data) != 0 || memcmp(tfci, tfci_back, sizeof tfci) != 0) {
+        return 1;
+    }
+
+    digits[9] = 1;
+    print_answer("slt_slot_read of a damaged pilot",
+                 slt_slot_read(1, 1, digits, sizeof digits, data_back, sizeof data_back, tfci_back, sizeof tfci_back));
+    print_answer("slt_slot_map of format 17", slt_slot_map(17, 1, 1, data, sizeof data, tfci, sizeof tfci, digits, sizeof digits));
+    return 0;
+}
+
 int main(void) {
-    return paging();
+    return paging() || slot();
 }

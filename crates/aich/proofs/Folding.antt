@@ -66,7 +66,7 @@ given-fold {A} {x} {y} g = record { row = λ k h. fold-same y (over A x) (g .row
 abbrev entry : List ℤ → ℕ → ℤ
 entry x k = getD x k (pos 0)
 
-pub folded-at : (x : List ℤ) (k : ℕ) → k < 16 → getD (folded x) k (pos 0) ≡ foldAt (entry x) k
+folded-at : (x : List ℤ) (k : ℕ) → k < 16 → getD (folded x) k (pos 0) ≡ foldAt (entry x) k
 unfolding folded
 folded-at x k h = tab-at 16 (foldAt (entry x)) k (pos 0) h
 

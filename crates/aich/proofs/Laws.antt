@@ -53,7 +53,7 @@ value-from-half x j h =
     half-at x (j / 2) (omega arith) ∙ value-half x (2 * (j / 2)) j (omega arith) ∙ sym (value-at x j h)
 
 -- runs with the same entries have the same sums
-pub value-same : (x y : List ℤ) (j : ℕ) → ((s : ℕ) → s < 16 → entry x s ≡ entry y s) → valueAt x j ≡ valueAt y j
+value-same : (x y : List ℤ) (j : ℕ) → ((s : ℕ) → s < 16 → entry x s ≡ entry y s) → valueAt x j ≡ valueAt y j
 unfolding valueAt
 value-same x y j e = sum-same 16 _ _ (λ s l. ap (λ (z : ℤ). z *ℤ sign s j) (e s l))
 
@@ -94,7 +94,7 @@ module _ (x : List ℤ) (t : ℕ) (h : t < 16) where
 
 -- ---- an indicator, and 16 or 32 times it
 
-pub unit-small : (n : ℕ) (z : ℤ) → Bounded 1 (unit n z)
+unit-small : (n : ℕ) (z : ℤ) → Bounded 1 (unit n z)
 unfolding unit
 unit-small n z = small (eqZ z (pos n)) (eqZ z (negℤ (pos n)))
   where
@@ -104,14 +104,14 @@ unit-small n z = small (eqZ z (pos n)) (eqZ z (negℤ (pos n)))
     small false false = b-lit tt
 
 -- what holds of -1, 0 and +1 holds of every indicator
-pub each-unit : (P : ℤ → Type 0) → P (negsuc 0) → P (pos 0) → P (pos 1) → (y : ℤ) → Bounded 1 y → P y
+each-unit : (P : ℤ → Type 0) → P (negsuc 0) → P (pos 0) → P (pos 1) → (y : ℤ) → Bounded 1 y → P y
 each-unit P a b c (pos zero) h = b
 each-unit P a b c (pos (suc zero)) h = c
 each-unit P a b c (pos (suc (suc n))) h = absurd (omega (arith, h .size))
 each-unit P a b c (negsuc zero) h = a
 each-unit P a b c (negsuc (suc n)) h = absurd (omega (arith, h .size))
 
-pub unit-back : (y : ℤ) → Bounded 1 y → unit 32 (y *ℤ pos 16 +ℤ y *ℤ pos 16) ≡ y
+unit-back : (y : ℤ) → Bounded 1 y → unit 32 (y *ℤ pos 16 +ℤ y *ℤ pos 16) ≡ y
 unfolding unit
 unit-back = each-unit (λ (y : ℤ). unit 32 (y *ℤ pos 16 +ℤ y *ℤ pos 16) ≡ y) refl refl refl
 

@@ -28,14 +28,14 @@ and-parts false b e = absurd (let z : _≡_ {A = ℕ} 0 1 = cc in omega arith)
 
 -- the tests by what they say
 module _ (v : List ℤ) (k : ℕ) where
-  pub alike-parts : alike v k ≡ true → (entry v (2 * k) ≡ entry v (2 * k + 1)) × Bounded 16 (entry v (2 * k))
+  alike-parts : alike v k ≡ true → (entry v (2 * k) ≡ entry v (2 * k + 1)) × Bounded 16 (entry v (2 * k))
   unfolding alike
   alike-parts e =
       let p = and-parts (eqZ (entry v (2 * k)) (entry v (2 * k + 1))) _ e in
       let r = range-parts (negsuc 15) (pos 16) (entry v (2 * k)) (p .1) in
       (eqZ-true _ _ (p .0), b-range 15 (entry v (2 * k)) (r .0) (r .1))
 
-  pub alike-holds : entry v (2 * k) ≡ entry v (2 * k + 1) → Bounded 16 (entry v (2 * k)) → alike v k ≡ true
+  alike-holds : entry v (2 * k) ≡ entry v (2 * k + 1) → Bounded 16 (entry v (2 * k)) → alike v k ≡ true
   unfolding alike
   alike-holds e b = rw (eq-eqZ _ _ e, range-holds (negsuc 15) (pos 16) (entry v (2 * k)) (range-low 15 _ b) (range-high 15 _ b))
 

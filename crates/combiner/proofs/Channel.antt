@@ -64,7 +64,7 @@ module _ (h1 h2 : Complex) (indicators : List ℤ) where
   unfolding clean part
   clean-at j h = tab-at 32 part j (pos 0) h
 
-  pub clean-symbol : (k : ℕ) → k < 16 → symbol (clean h1 h2 indicators) k ≡ arriving h1 h2 indicators k
+  clean-symbol : (k : ℕ) → k < 16 → symbol (clean h1 h2 indicators) k ≡ arriving h1 h2 indicators k
   unfolding part
   clean-symbol k h =
       let q : 2 * k / 2 ≡ k = omega arith in

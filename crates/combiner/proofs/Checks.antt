@@ -22,7 +22,7 @@ use Rattle.combiner.specs.Method.{Small, Parts}
 pub gain-small : (z : ℤ) → gainIn z ≡ true → Bounded 4096 z
 gain-small z e = let p = range-parts (negsuc 4095) (pos 4096) z e in b-range 4095 z (p .0) (p .1)
 
-pub small-gain : (z : ℤ) → Bounded 4096 z → gainIn z ≡ true
+small-gain : (z : ℤ) → Bounded 4096 z → gainIn z ≡ true
 small-gain z b = range-holds (negsuc 4095) (pos 4096) z (range-low 4095 z b) (range-high 4095 z b)
 
 pub parts-small : (r : List ℤ) → length r ≡ 32 → Every (partIn r) 32 → Parts 1048576 r

@@ -1,13 +1,10 @@
 -- Sizes of complex numbers, and of what the combiner makes of them.
 -- Assumes nothing.
-use Prim.Native.Nat.{ℕ, _+_, _*_, _≤_}
-use Rattle.whole.proofs.Bound.{b-sum, b-neg, b-diff, b-product, b-weaken}
+use Prim.Native.Nat.{ℕ, _+_, _*_}
+use Rattle.whole.proofs.Bound.{b-sum, b-neg, b-diff, b-product}
 use Rattle.combiner.specs.declared.Complex.{Complex}
 use Rattle.combiner.specs.Complexes.{_⊞_, _⊟_, _⊠_, conj}
 use Rattle.combiner.specs.Method.{Small}
-
-pub small-weaken : {A B : ℕ} {z : Complex} → A ≤ B → Small A z → Small B z
-small-weaken l p = record { re-in = b-weaken l (p .re-in); im-in = b-weaken l (p .im-in) }
 
 pub small-conj : {B : ℕ} {z : Complex} → Small B z → Small B (conj z)
 small-conj p = record { re-in = p .re-in; im-in = b-neg (p .im-in) }

@@ -4,14 +4,13 @@ use run::or_else;
 use run::range;
 use run::refusal;
 use run::unless;
-use whole::wide;
 ghost use mathlib.Core.Path.{_≡_};
 ghost use Prim.Native.Nat.{_<_};
 ghost use lib.ListN.{length};
 ghost use Rattle.aich.specs.Method.{Sixteen, folded};
 ghost use Rattle.combiner.specs.Complexes.{cx, _⊞_, _⊟_, _⊠_, conj};
-ghost use Rattle.combiner.specs.Rule.{symbol, t1, t2, combined, numbersOf};
-ghost use Rattle.combiner.specs.Outcome.{someGain, combineHead, combineBody, Combine};
+ghost use Rattle.combiner.specs.Rule.{symbol, t1, t2, combined};
+ghost use Rattle.combiner.specs.Outcome.{gainIn, someGain, combineHead, combineBody, Combine};
 ghost use Rattle.combiner.specs.Method.{Small, Parts, pairSums, correlations};
 
 // A complex whole number.
@@ -75,6 +74,13 @@ fn second_of(h1: Complex, h2: Complex, r1: Complex, r2: Complex) -> Complex
     ensures { λ r. ⌜ r ≡ t2 h1 h2 r1 r2 ⌝ }
 {
     minus(times(conj(h1), r2), times(h2, conj(r1)))
+}
+
+// The same number, in 64 bits.
+fn wide(x: i32) -> i64
+    ensures { λ r. ⌜ r ≡ x ⌝ }
+{
+    x as i64
 }
 
 // Symbol k of a run of real and imaginary parts in turn.
@@ -155,6 +161,13 @@ fn correlate(t: &[i64]) -> [i64; 16]
     fold(&thrice)
 }
 
+// A gain part is in range.
+fn gain_in(part: i64) -> bool
+    ensures { λ r. ⌜ r ≡ gainIn part ⌝ }
+{
+    range::between(part, -4096, 4096)
+}
+
 // Not both gains are zero.
 fn some_gain(h1: Complex, h2: Complex) -> bool
     ensures { λ r. ⌜ r ≡ someGain h1 h2 ⌝ }
@@ -185,22 +198,10 @@ fn combine_body(h1: Complex, h2: Complex, received: &[i32]) -> Verdict
     let i = range::first_outside(received, -1048576, 1048576);
     let zero = unless(some_gain(h1, h2), refusal::GAINS, 0);
     let parts = or_else(unless(32 <= i, refusal::RANGE, 4 + i), zero);
-    let fourth = or_else(
-        unless(range::between(h2.im, -4096, 4096), refusal::RANGE, 3),
-        parts,
-    );
-    let third = or_else(
-        unless(range::between(h2.re, -4096, 4096), refusal::RANGE, 2),
-        fourth,
-    );
-    let second = or_else(
-        unless(range::between(h1.im, -4096, 4096), refusal::RANGE, 1),
-        third,
-    );
-    or_else(
-        unless(range::between(h1.re, -4096, 4096), refusal::RANGE, 0),
-        second,
-    )
+    let fourth = or_else(unless(gain_in(h2.im), refusal::RANGE, 3), parts);
+    let third = or_else(unless(gain_in(h2.re), refusal::RANGE, 2), fourth);
+    let second = or_else(unless(gain_in(h1.im), refusal::RANGE, 1), third);
+    or_else(unless(gain_in(h1.re), refusal::RANGE, 0), second)
 }
 
 fn write_results(numbers: &[i64], results: &mut [i64])

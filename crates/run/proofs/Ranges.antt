@@ -10,13 +10,13 @@ use borrow.Author.Tests.{ltb-true, ltb-false, lt-leb, le-leb}
 use Rattle.run.specs.Ranges.{between}
 
 -- a test that holds and its converse
-pub below-leZ : (x y : ℤ) → ltZ x y ≡ true → leZ y x ≡ false
+below-leZ : (x y : ℤ) → ltZ x y ≡ true → leZ y x ≡ false
 below-leZ (pos a) (pos b) e = lt-leb b a (ltb-true a b e)
 below-leZ (pos a) (negsuc b) e = absurd (let z : _≡_ {A = ℕ} 0 1 = cc in omega arith)
 below-leZ (negsuc a) (pos b) e = refl
 below-leZ (negsuc a) (negsuc b) e = lt-leb a b (ltb-true b a e)
 
-pub above-leZ : (x y : ℤ) → ltZ x y ≡ false → leZ y x ≡ true
+above-leZ : (x y : ℤ) → ltZ x y ≡ false → leZ y x ≡ true
 above-leZ (pos a) (pos b) e = le-leb b a (ltb-false a b e)
 above-leZ (pos a) (negsuc b) e = refl
 above-leZ (negsuc a) (pos b) e = absurd (let z : _≡_ {A = ℕ} 0 1 = cc in omega arith)

@@ -1,6 +1,7 @@
 -- A signed local holds bits. `Reads w n z A` says that the bits n stand for z, which is within -A .. A. Each operation's need (`fits-..`) and what
--- its result holds (`r-..`) come from those of its operands, the bound computed. Assumes nothing.
-use mathlib.Core.Path.{_≡_, refl, sym, _∙_, ap₂, subst}
+-- its result holds (`r-..`) come from those of its operands, the bound computed.
+-- Assumes nothing.
+use mathlib.Core.Path.{_≡_, sym, _∙_, ap₂, subst}
 use Prim.Native.Nat.{ℕ, _+_, _*_, _^_, _<_}
 use lib.IntN.{ℤ, _+ℤ_, _-ℤ_, _*ℤ_}
 use mir.Syntax.{Width}
@@ -13,21 +14,9 @@ pub record Reads (w : Width) (n : ℕ) (z : ℤ) (A : ℕ) : Type 0 where
   pub is : toZ w n ≡ z
   pub within : Bounded A z
 
--- a parameter, or an element that was read
-pub r-value : {w : Width} {z : ℤ} {A : ℕ} → SFits w z → Bounded A z → Reads w (ofZ w z) z A
-r-value f b = record { is = toZ-ofZ f; within = b }
-
--- a number within what the width holds
+-- a parameter or an element that was read, within what the width holds
 pub r-in : {w : Width} {z : ℤ} {A : ℕ} → Bounded A z → A < 2 ^ hbits w → Reads w (ofZ w z) z A
-r-in b l = r-value (fits-by b l) b
-
--- bits that are read as they stand
-pub r-bits : {w : Width} (n : ℕ) {A : ℕ} → Bounded A (toZ w n) → Reads w n (toZ w n) A
-r-bits n b = record { is = refl; within = b }
-
--- the bound, of what is read back from the bits, as a call's argument is
-pub b-read : {w : Width} {n : ℕ} {z : ℤ} {A : ℕ} → Reads w n z A → Bounded A (toZ w n)
-b-read {A = A} p = subst (Bounded A) (sym (p .is)) (p .within)
+r-in b l = record { is = toZ-ofZ (fits-by b l); within = b }
 
 -- what is written, of a number that fits and is z
 written : {w : Width} {v z : ℤ} {A : ℕ} → v ≡ z → Bounded A z → A < 2 ^ hbits w → SFits w v

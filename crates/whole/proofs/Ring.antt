@@ -1,6 +1,7 @@
 -- Equations of a commutative ring over ℤ, by computation. `Expr` is an expression in numbered unknowns, `eval ρ` its value where
 -- the unknown k is ρ k. `check e₁ e₂` multiplies both out and asks that every coefficient of the difference is zero; where it does,
--- the two have one value at every ρ (`solve`). Assumes nothing.
+-- the two have one value at every ρ (`solve`).
+-- Assumes nothing.
 use mathlib.Core.Path.{_≡_, refl, sym, _∙_, ap, ap₂}
 use mathlib.Core.List.{List, [], _∷_}
 use mathlib.Core.Bool.{Bool, true, false}
@@ -195,10 +196,6 @@ pub quote-pos : (ρ : ℕ → ℤ) (n : ℕ) → pos n ≡ eval ρ (num n)
 unfolding eval
 quote-pos ρ n = refl
 
-pub quote-negsuc : (ρ : ℕ → ℤ) (n : ℕ) → negsuc n ≡ eval ρ (neg (num (suc n)))
-unfolding eval
-quote-negsuc ρ n = refl
-
 pub ruleset quoted = (quote-add, quote-mul, quote-neg)
 
 -- each number of the list is an unknown, from k on
@@ -223,7 +220,7 @@ unfolding eval
 use-known [] k ρ h f = f
 use-known (x ∷ xs) k ρ h f = use-known xs (suc k) ρ (h .1) (f (h .0))
 
--- `ring (x ∷ y ∷ []) (λ ρ p q. simp (p, q, quoted) (solve ρ _ _ tt))` proves an equation in x and y; where numerals stand in it
--- the list is (p, q, quoted, quote-pos ρ, quote-negsuc ρ)
+-- `ring (x ∷ y ∷ []) (λ ρ p q. simp (p, q, quoted) (solve ρ _ _ tt))` proves an equation in x and y; where numerals stand in it the list is
+-- (p, q, quoted, quote-pos ρ)
 pub ring : {P : Type 0} (xs : List ℤ) → ((ρ : ℕ → ℤ) → Known xs 0 ρ P) → P
 ring xs f = use-known xs 0 (env xs) (holds-env xs) (f (env xs))

@@ -45,8 +45,8 @@ unless-requires-2 c κs = search needs
 or-else-requires : tie.Need-or-else-requires
 or-else-requires c κs = search needs
 
-between-requires : tie.Need-between-requires
-between-requires c κs = search needs
+gain-in-requires : tie.Need-gain-in-requires
+gain-in-requires c κs = search needs
 
 unless-requires-3 : tie.Need-unless-requires-3
 unless-requires-3 c κs = search needs
@@ -54,8 +54,8 @@ unless-requires-3 c κs = search needs
 or-else-requires-2 : tie.Need-or-else-requires-2
 or-else-requires-2 c κs = search needs
 
-between-requires-2 : tie.Need-between-requires-2
-between-requires-2 c κs = search needs
+gain-in-requires-2 : tie.Need-gain-in-requires-2
+gain-in-requires-2 c κs = search needs
 
 unless-requires-4 : tie.Need-unless-requires-4
 unless-requires-4 c κs = search needs
@@ -63,8 +63,8 @@ unless-requires-4 c κs = search needs
 or-else-requires-3 : tie.Need-or-else-requires-3
 or-else-requires-3 c κs = search needs
 
-between-requires-3 : tie.Need-between-requires-3
-between-requires-3 c κs = search needs
+gain-in-requires-3 : tie.Need-gain-in-requires-3
+gain-in-requires-3 c κs = search needs
 
 unless-requires-5 : tie.Need-unless-requires-5
 unless-requires-5 c κs = search needs
@@ -72,8 +72,8 @@ unless-requires-5 c κs = search needs
 or-else-requires-4 : tie.Need-or-else-requires-4
 or-else-requires-4 c κs = search needs
 
-between-requires-4 : tie.Need-between-requires-4
-between-requires-4 c κs = search needs
+gain-in-requires-4 : tie.Need-gain-in-requires-4
+gain-in-requires-4 c κs = search needs
 
 unless-requires-6 : tie.Need-unless-requires-6
 unless-requires-6 c κs = search needs
@@ -89,16 +89,16 @@ returns c =
     rw (
       c .or-else5 .ensures,
       c .before .unless6 .ensures,
-      c .before .before .between4 .ensures ∙ seen (h1 .re) (c .before .before .before .struct-told4 .given .0 .1),
+      c .before .before .gain-in4 .ensures ∙ seen (h1 .re) (c .before .before .before .struct-told4 .given .0 .1),
       c .before .before .before .before .or-else4 .ensures,
       c .before .before .before .before .before .unless5 .ensures,
-      c .before .before .before .before .before .before .between3 .ensures ∙ seen (h1 .im) (c .before .before .before .before .before .before .before .struct-told3 .given .1 .0 .1),
+      c .before .before .before .before .before .before .gain-in3 .ensures ∙ seen (h1 .im) (c .before .before .before .before .before .before .before .struct-told3 .given .1 .0 .1),
       c .before .before .before .before .before .before .before .before .or-else3 .ensures,
       c .before .before .before .before .before .before .before .before .before .unless4 .ensures,
-      c .before .before .before .before .before .before .before .before .before .before .between2 .ensures ∙ seen (h2 .re) (c .before .before .before .before .before .before .before .before .before .before .before .struct-told2 .given .0 .1),
+      c .before .before .before .before .before .before .before .before .before .before .gain-in2 .ensures ∙ seen (h2 .re) (c .before .before .before .before .before .before .before .before .before .before .before .struct-told2 .given .0 .1),
       c .before .before .before .before .before .before .before .before .before .before .before .before .or-else2 .ensures,
       c .before .before .before .before .before .before .before .before .before .before .before .before .before .unless3 .ensures,
-      c .before .before .before .before .before .before .before .before .before .before .before .before .before .before .between .ensures ∙ seen (h2 .im) (c .before .before .before .before .before .before .before .before .before .before .before .before .before .before .before .struct-told .given .1 .0 .1),
+      c .before .before .before .before .before .before .before .before .before .before .before .before .before .before .gain-in .ensures ∙ seen (h2 .im) (c .before .before .before .before .before .before .before .before .before .before .before .before .before .before .before .struct-told .given .1 .0 .1),
       c .before .before .before .before .before .before .before .before .before .before .before .before .before .before .before .before .or-else .ensures,
       c .before .before .before .before .before .before .before .before .before .before .before .before .before .before .before .before .before .unless2 .ensures,
       c .before .before .before .before .before .before .before .before .before .before .before .before .before .before .before .before .before .before .unless .ensures,
@@ -116,16 +116,16 @@ combine-body-spec =
     add-unless
     unless-requires-2
     or-else-requires
-    between-requires
+    gain-in-requires
     unless-requires-3
     or-else-requires-2
-    between-requires-2
+    gain-in-requires-2
     unless-requires-4
     or-else-requires-3
-    between-requires-3
+    gain-in-requires-3
     unless-requires-5
     or-else-requires-4
-    between-requires-4
+    gain-in-requires-4
     unless-requires-6
     or-else-requires-5
     returns)

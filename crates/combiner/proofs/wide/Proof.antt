@@ -1,11 +1,11 @@
--- `whole::wide` meets its contract: what fits 32 bits fits 64.
+-- `combiner::wide` meets its contract: what fits 32 bits fits 64.
 -- Assumes nothing.
 use mathlib.Core.Path.{sym, _∙_, subst}
 use mir.Syntax.{w32, w64}
 use mir.Val.{SFits}
 use mir.Facts.{toZ-ofZ, sfits-widen}
-use Rattle.whole.proofs.wide.Statement.{statement}
-use Rattle.whole.proofs.wide.Tie as tie
+use Rattle.combiner.proofs.wide.Statement.{statement}
+use Rattle.combiner.proofs.wide.Tie as tie
 
 cast-result : tie.Need-cast-result
 cast-result c = subst (SFits w64) (sym (toZ-ofZ {w = w32} (c .fits .x))) (sfits-widen tt (c .fits .x))
