@@ -24,7 +24,7 @@ use Rattle.aich.specs.Rule.{isPlus, sign, valueAt, valuesOf, correlation}
 use Rattle.aich.proofs.Checks.{taken}
 use Rattle.aich.proofs.Laws.{entry, values-length, value-at, value-small}
 use Rattle.sttd.specs.Rule.{sttd}
-use Rattle.sttd.specs.Outcome.{inRange, valuesVerdict}
+use Rattle.sttd.specs.Outcome.{valuesVerdict}
 use Rattle.sttd.specs.Exact.{Block}
 use Rattle.sttd.proofs.Laws.{sttd-length, block}
 use Rattle.combiner.specs.Rule.{partOf, combinedAt, combined, numberOf, numbersOf}
@@ -34,7 +34,7 @@ use Rattle.combiner.specs.Exact.{EncoderTakes, SumOfEncoded, CombineOnce
 use Rattle.combiner.proofs.Fours.{by-fours}
 
 pub encoder-takes : EncoderTakes
-unfolding valuesVerdict inRange
+unfolding valuesVerdict between
 encoder-takes indicators e =
     let units = taken indicators 32 (ap (λ (v : Verdict). v .number) e) .indicators-ok in
     let n = values-length indicators in

@@ -13,7 +13,7 @@ use lib.Seq.{ext-getD}
 use Rattle.run.specs.declared.Verdict.{Verdict}
 use Rattle.run.specs.Digits.{dtx}
 use Rattle.run.specs.First.{Every, atMost}
-use Rattle.run.specs.Verdicts.{done, leaves, Narrow}
+use Rattle.run.specs.Verdicts.{done, orElse, unless, leaves, Narrow}
 use Rattle.run.proofs.Bools.{and-left, and-right}
 use Rattle.run.proofs.Chain.{or-else-done, or-else-pass, unless-pass, each-pass, or-else-narrow, unless-narrow, check-narrow, each-narrow, leaves-done, leaves-refused, one-outcome, unless-done}
 use Rattle.pich.specs.declared.Pi.{Pi}
@@ -230,5 +230,5 @@ packs =
     }
 
 pub marked : Marked
-unfolding qOf
-marked = record { p7 = refl; p8 = refl }
+unfolding qOf isNp qVerdict orElse unless
+marked = record { p7 = (refl, refl); p8 = (refl, refl); sfn-4096 = refl; np-73 = λ pi sfn. refl }

@@ -20,6 +20,7 @@ use Rattle.run.specs.Verdicts.{done, orElse, unless, each, leaves, Narrow}
 use Rattle.run.proofs.Chain.{or-else-done, or-else-pass, unless-done, unless-pass, or-else-narrow, unless-narrow, check-narrow, leaves-refused, one-outcome}
 use Rattle.sample.specs.declared.Setting.{Setting}
 use Rattle.sample.specs.declared.Setting.the-variants.{Off, Shared, Each}
+use Rattle.run.specs.Ranges.{between}
 use Rattle.sample.specs.Rule.{isValue, isLevel, lowest, highest, plusZero, times, part}
 use Rattle.sample.specs.Outcome.{levelsVerdict, takeVerdict}
 use Rattle.sample.specs.Exact.{ValueBetween, Level, LevelBetween, Levels, TakeAccepts, LowestPlace, ValueExact, RoundedOnce, ProductOfF32, ProductSigns, Silent, TakeSilent, TakeOnce, Packs, Worked}
@@ -27,7 +28,7 @@ use Rattle.sample.proofs.Laws.{passed, cast-exact, cast-times, Inside, 
 
 -- ---- what is accepted
 pub value-between : ValueBetween
-unfolding isValue
+unfolding between
 value-between (pos n) = (λ e. leb-true n 16 e, λ h. le-leb n 16 h)
 value-between (negsuc n) = (
   λ e. let h = leb→le n 15 (and-l (leb n 15) true (passed e)) in omega arith,
@@ -201,7 +202,7 @@ pub packs : Packs
 packs = record { take-narrow = take-narrow }
 
 pub worked : Worked
-unfolding isValue isLevel le times mul part levelsVerdict takeVerdict orElse unless
+unfolding between isLevel le times mul part levelsVerdict takeVerdict orElse unless
 worked =
     record {
       plain = refl;

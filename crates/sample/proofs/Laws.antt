@@ -15,6 +15,7 @@ use lib.Ieee.Back.{round-whole}
 use lib.Ieee.Positive.{positive, between, cross→le, mul-mono}
 use lib.Ieee.Scale.{round-same}
 use Rattle.run.proofs.Chain.{or-else-done, unless-done}
+use Rattle.run.specs.Ranges as ranges
 use Rattle.sample.specs.declared.Setting.{Setting}
 use Rattle.sample.specs.Rule.{isValue, lowest, highest, isLevel, plusZero, times}
 use Rattle.sample.specs.Outcome.{levelsVerdict, takeVerdict}
@@ -36,7 +37,7 @@ passed e = subst T (sym e) tt
 
 -- -16 to 16 lie where an f32 holds every whole number
 pub in-float : (v : ℤ) → isValue v ≡ true → T (inFloat binary32 v)
-unfolding isValue inFloat
+unfolding ranges.between inFloat
 in-float v e = holds v (passed e)
   where
     holds : (v : ℤ) → T (isValue v) → T (inFloat binary32 v)

@@ -5,14 +5,14 @@ use Prim.Native.Nat.{ℕ, suc}
 use mathlib.Core.Bool.{Bool, true, false, cond, _&&_}
 use lib.Dec.{eqb}
 use lib.IntN.{ℤ, pos, negsuc}
-use lib.Signed.{leZ}
 use lib.Ieee.{Float, fin, binary32, le, mul}
+use Rattle.run.specs.Ranges.{between}
 use Rattle.sample.specs.declared.Setting.{Setting}
 use Rattle.sample.specs.declared.Setting.the-variants.{Off, Shared, Each}
 
 -- 'two whole values -16 to 16'
-unfoldable pub isValue : ℤ → Bool
-isValue v = leZ (negsuc 15) v && leZ v (pos 16)
+abbrev pub isValue : ℤ → Bool
+isValue = between (negsuc 15) (pos 16)
 
 -- 1/1024 and 1024, which are 2 to the -10 and 2 to the 10
 abbrev pub lowest : Float

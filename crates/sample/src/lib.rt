@@ -1,6 +1,7 @@
 // Samples for a simulator: document 01, 'Samples'.
 use run::Verdict;
 use run::or_else;
+use run::range;
 use run::refusal;
 use run::unless;
 ghost use mathlib.Core.Path.{_≡_};
@@ -35,7 +36,7 @@ pub struct Sampled {
 fn is_value(v: i64) -> bool
     ensures { λ r. ⌜ r ≡ isValue v ⌝ }
 {
-    if -16 <= v { v <= 16 } else { false }
+    range::between(v, -16, 16)
 }
 
 // Both tests say what is taken, not what is refused: a NaN passes neither.

@@ -12,7 +12,7 @@ use lib.ListN.{length, getD, take, drop, replicate, take-append-drop, length-rep
 use lib.Seq.{take-at, drop-at, getD-take, getD-drop}
 use Rattle.run.specs.declared.Verdict.{Verdict}
 use Rattle.run.specs.Digits.{dtx}
-use Rattle.run.specs.First.{Every, atMost, likeFirst, agree}
+use Rattle.run.specs.First.{firstBad, Every, atMost, likeFirst, agree}
 use Rattle.run.specs.Fields.{cut, joined, field, start}
 use Rattle.run.specs.Verdicts.{done, orElse, unless, each, leaves, Narrow}
 use Rattle.run.proofs.First.{no-diff, diff-none}
@@ -340,5 +340,11 @@ packs =
     }
 
 pub marked : Marked
-unfolding formats formatOf slotOf fieldsOf joined pilotOf symbolsFor symbolsOf symbols1 symbols3 symbols5 symbols7 mapVerdict mapHead orElse unless
-marked = record { p1 = refl; p2 = refl; p3 = λ slot tpc d tfci n. refl; p4 = λ tpc d tfci n. refl }
+unfolding formats formatOf slotOf fieldsOf joined pilotOf symbolsFor symbolsOf symbols1 symbols3 symbols5 symbols7 mapVerdict mapHead fieldsVerdict tfciStands firstBad each orElse unless
+marked =
+    record {
+      p1 = record { taken = refl; written = refl };
+      p2 = record { taken = refl; written = refl };
+      p3 = λ slot tpc d tfci n. refl;
+      p4 = λ tpc d tfci n. refl;
+    }

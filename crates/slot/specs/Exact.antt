@@ -79,7 +79,7 @@ pub record Packs : Type 0 where
 
 -- P1 to P4 of document 01
 pub record Marked : Type 0 where
-  pub p1 : slotOf (formatOf 0) 0 0 (1 ∷ 0 ∷ 1 ∷ 0 ∷ []) [] ≡ 0 ∷ 0 ∷ 1 ∷ 0 ∷ 1 ∷ 0 ∷ 1 ∷ 1 ∷ 1 ∷ 1 ∷ []
-  pub p2 : slotOf (formatOf 1) 1 1 (1 ∷ 0 ∷ []) (0 ∷ 1 ∷ []) ≡ 1 ∷ 1 ∷ 0 ∷ 1 ∷ 1 ∷ 0 ∷ 1 ∷ 1 ∷ 0 ∷ 0 ∷ []
+  pub p1 : Gives 0 0 0 (1 ∷ 0 ∷ 1 ∷ 0 ∷ []) [] (0 ∷ 0 ∷ 1 ∷ 0 ∷ 1 ∷ 0 ∷ 1 ∷ 1 ∷ 1 ∷ 1 ∷ [])
+  pub p2 : Gives 1 1 1 (1 ∷ 0 ∷ []) (0 ∷ 1 ∷ []) (1 ∷ 1 ∷ 0 ∷ 1 ∷ 1 ∷ 0 ∷ 1 ∷ 1 ∷ 0 ∷ 0 ∷ [])
   pub p3 : (slot tpc : ℕ) (d tfci : List ℕ) (outLength : ℕ) → mapVerdict 17 slot tpc d tfci outLength ≡ refused 1 0
   pub p4 : (tpc : ℕ) (d tfci : List ℕ) (outLength : ℕ) → mapVerdict 0 15 tpc d tfci outLength ≡ refused 2 0

@@ -8,7 +8,8 @@ use borrow.Author.Tests.{eqb-true}
 use lib.Dec.{lit<}
 use lib.IntN.{ℤ, negℤ-negℤ}
 use lib.ListN.{length}
-use Rattle.run.specs.Verdicts.{Narrow}
+use Rattle.run.specs.First.{firstBad}
+use Rattle.run.specs.Verdicts.{orElse, unless, each, Narrow}
 use Rattle.run.proofs.Chain.{check-narrow, each-narrow, one-outcome}
 use Rattle.sttd.specs.Rule.{sttd, barDigit}
 use Rattle.sttd.specs.Outcome.{digitsVerdict, valuesVerdict}
@@ -65,5 +66,5 @@ pub packs : Packs
 packs = record { digits-narrow = digits-narrow; values-narrow = values-narrow }
 
 pub marked : Marked
-unfolding sttd barDigit
-marked = record { p5 = refl; p6 = refl }
+unfolding sttd barDigit digitsVerdict firstBad each orElse unless
+marked = record { p5 = (refl, refl); p6 = (refl, refl) }

@@ -18,7 +18,7 @@ use Rattle.run.proofs.Chain.{or-else-done, unless-done, each-done}
 use Rattle.run.proofs.Front.{Front, front-length, front-store, front-end}
 use Rattle.run.proofs.Over.{over-length, over-at, over-rest, over-whole}
 use Rattle.sttd.specs.Rule.{sttd, barDigit}
-use Rattle.sttd.specs.Outcome.{digitsVerdict, inRange, inRangeAt, valuesVerdict, encodedOver}
+use Rattle.sttd.specs.Outcome.{digitsVerdict, valueIn, valuesIn, valuesVerdict, encodedOver}
 use Rattle.sttd.specs.Exact.{Block}
 use Rattle.sttd.proofs.Bars.{value-fits, negated-fits}
 use Rattle.sttd.proofs.Laws.{sttd-length, block-at}
@@ -94,12 +94,12 @@ module _ (input out₀ : List ℕ) where
       rw (take-all (4 * (min (length input) (length out₀) / 4)) input all) (over-whole (sttd barDigit input) out₀ (sttd-length barDigit input ∙ sym e))
 
 -- ---- the blocks of 32 values
-module _ (input : List ℤ) (long : length input ≡ 32) (ok : Every (inRangeAt input) 32) where
+module _ (input : List ℤ) (long : length input ≡ 32) (ok : Every (valuesIn input) 32) where
   -- what the code reads and writes of a value, and of its bar, is the value itself
   kept : (j : ℕ) → j < 32 → toZ w32 (ofZ w32 (getD input j (pos 0))) ≡ getD input j (pos 0)
   kept j h = toZ-ofZ w32 (getD input j (pos 0)) (value-fits (getD input j (pos 0)) (ok j h))
 
-  pub read-in-range : (j : ℕ) → j < 32 → inRange (toZ w32 (ofZ w32 (getD input j (pos 0)))) ≡ true
+  pub read-in-range : (j : ℕ) → j < 32 → valueIn (toZ w32 (ofZ w32 (getD input j (pos 0)))) ≡ true
   read-in-range j h = rw (kept j h) (ok j h)
 
   barred : (j : ℕ) {r : ℤ} → j < 32 → r ≡ negℤ (toZ w32 (ofZ w32 (getD input j (pos 0)))) → toZ w32 (ofZ w32 r) ≡ negℤ (getD input j (pos 0))
@@ -136,7 +136,7 @@ digits-taken input outLength h =
 pub record ValuesTaken (input : List ℤ) (outLength : ℕ) : Type 0 where
   pub input-ok : length input ≡ 32
   pub out-ok : outLength ≡ 32
-  pub range-ok : Every (inRangeAt input) (length input)
+  pub range-ok : Every (valuesIn input) (length input)
 
 pub values-taken : (input : List ℤ) (outLength : ℕ) → valuesVerdict input outLength .number ≡ 0 → ValuesTaken input outLength
 unfolding valuesVerdict

@@ -2,14 +2,14 @@
 -- Assumes nothing.
 use Prim.Native.Nat.{ℕ, _*_, _/_, _%_, min}
 use mathlib.Core.Path.{_≡_}
-use mathlib.Core.Bool.{Bool, _&&_}
+use mathlib.Core.Bool.{Bool}
 use mathlib.Core.List.{List}
-use lib.ListN.{length, getD, take}
+use lib.ListN.{length, take}
 use lib.Dec.{eqb}
 use lib.IntN.{ℤ, pos, negsuc, negℤ}
-use lib.Signed.{leZ}
 use Rattle.run.specs.declared.Verdict.{Verdict}
 use Rattle.run.specs.First.{atMost}
+use Rattle.run.specs.Ranges.{between, inRange}
 use Rattle.run.specs.Refusals.{lengthRefused, digitRefused, rangeRefused}
 use Rattle.run.specs.Verdicts.{orElse, unless, each, leaves}
 use Rattle.run.specs.Written.{over}
@@ -26,20 +26,19 @@ pub record Digits (input out : List ℕ) (answer : Verdict) (out-after : List �
   pub verdict-is : answer ≡ digitsVerdict input (length out)
   pub out-is : out-after ≡ leaves (digitsVerdict input (length out)) (sttd barDigit input) out
 
--- an AICH value is -16 to 16
-unfoldable pub inRange : ℤ → Bool
-inRange v = leZ (negsuc 15) v && leZ v (pos 16)
+-- 'each -16 to 16': an AICH value, and the one at a place of a run
+abbrev pub valueIn : ℤ → Bool
+valueIn = between (negsuc 15) (pos 16)
 
--- the value at place k is in range
-abbrev pub inRangeAt : List ℤ → ℕ → Bool
-inRangeAt s k = inRange (getD s k (pos 0))
+abbrev pub valuesIn : List ℤ → ℕ → Bool
+valuesIn = inRange (negsuc 15) (pos 16)
 
 -- values: exactly 32; 3 (input, output), then 11 at the index
 unfoldable pub valuesVerdict : List ℤ → ℕ → Verdict
 valuesVerdict input outLength =
     orElse (unless (eqb (length input) 32) lengthRefused 0)
     (orElse (unless (eqb outLength 32) lengthRefused 1)
-    (each 0 rangeRefused (inRangeAt input) (length input)))
+    (each 0 rangeRefused (valuesIn input) (length input)))
 
 pub record Values (input out : List ℤ) (answer : Verdict) (out-after : List ℤ) : Type 0 where
   pub verdict-is : answer ≡ valuesVerdict input (length out)

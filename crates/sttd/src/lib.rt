@@ -1,6 +1,7 @@
 // Space time block coding for two antennas: document 01, 'STTD'; TS 25.211, 5.3.1.1.1.
 use run::Verdict;
 use run::or_else;
+use run::range;
 use run::refusal;
 use run::scan;
 use run::unless;
@@ -8,9 +9,9 @@ ghost use mathlib.Core.Path.{_≡_};
 ghost use mathlib.Core.Bool.{true};
 ghost use lib.ListN.{length};
 ghost use lib.IntN.{negℤ};
-ghost use Rattle.run.specs.First.{firstBad, Every};
+ghost use Rattle.run.specs.First.{Every};
 ghost use Rattle.sttd.specs.Rule.{sttd, barDigit};
-ghost use Rattle.sttd.specs.Outcome.{digitsVerdict, Digits, inRange, inRangeAt, valuesVerdict, Values, encodedOver};
+ghost use Rattle.sttd.specs.Outcome.{digitsVerdict, Digits, valueIn, valuesIn, valuesVerdict, Values, encodedOver};
 
 // 0 and 1 change places, by their lowest bit; DTX stays.
 fn bar(d: u8) -> u8
@@ -61,29 +62,11 @@ pub fn digits(input: &[u8], out: &mut [u8]) -> Verdict
     verdict
 }
 
-// The first place whose value is not -16 to 16.
-fn first_outside(s: &[i32]) -> usize
-    ensures { λ r. ⌜ r ≡ firstBad (inRangeAt (now (s .entry))) (length (now (s .entry))) ⌝ }
-{
-    let mut i = 0;
-    while i < s.len() {
-        let v = s[i];
-        if v < -16 {
-            return i;
-        }
-        if 16 < v {
-            return i;
-        }
-        i += 1;
-    }
-    i
-}
-
 fn values_verdict(input: &[i32], out_length: usize) -> Verdict
     ensures { λ r. ⌜ r ≡ valuesVerdict (now (input .entry)) «out_length» ⌝ }
 {
     let n = input.len();
-    let i = first_outside(input);
+    let i = range::first_outside(input, -16, 16);
     let range = unless(n <= i, refusal::RANGE, i);
     let second = or_else(unless(out_length == 32, refusal::LENGTH, 1), range);
     or_else(unless(n == 32, refusal::LENGTH, 0), second)
@@ -91,7 +74,7 @@ fn values_verdict(input: &[i32], out_length: usize) -> Verdict
 
 // The bar of a value.
 fn negated(v: i32) -> i32
-    requires { ⌜ inRange v ≡ true ⌝ }
+    requires { ⌜ valueIn v ≡ true ⌝ }
     ensures { λ r. ⌜ r ≡ negℤ v ⌝ }
 {
     -v
@@ -99,7 +82,7 @@ fn negated(v: i32) -> i32
 
 // The eight blocks of 32 values.
 fn encode_values(input: &[i32], out: &mut [i32])
-    requires { ⌜ (length (now input) ≡ 32) × (length (now out) ≡ 32) × Every (inRangeAt (now input)) 32 ⌝ }
+    requires { ⌜ (length (now input) ≡ 32) × (length (now out) ≡ 32) × Every (valuesIn (now input)) 32 ⌝ }
     ensures { λ _. ⌜ now (out .exit) ≡ sttd negℤ (now (input .entry)) ⌝ }
 {
     let mut i = 0;
