@@ -25,7 +25,7 @@ use Rattle.whole.proofs.Bound.{range-low, range-high}
 use Rattle.aich.specs.Rule.{isPlus, sign, valueAt, valuesOf, correlation, unit, indicatorsIn}
 use Rattle.aich.specs.Outcome.{mapVerdict, given, readHead, readVerdict}
 use Rattle.aich.specs.Method.{Sixteen}
-use Rattle.aich.specs.Exact.{Rows, Gives, ReadExact, GivenSized, MapOnce, ReadOnce, Packs, Marked}
+use Rattle.aich.specs.Exact.{Rows, Gives, ReadExact, Sized, GivenSized, MapOnce, ReadOnce, Packs, Marked}
 use Rattle.aich.proofs.Signs.{sign-second, dot}
 use Rattle.aich.proofs.Laws.{entry, values-length, value-at, value-small, indicators-length, indicator-small, given-back}
 use Rattle.aich.proofs.Reading.{given-every, every-given}
@@ -90,15 +90,18 @@ read-exact values =
       one-set = λ is js g h. sym (handed values is g) ∙ handed values js h;
     }
 
-pub given-sized : GivenSized
-given-sized indicators values g =
-    rw (← g .written)
-    (record {
+-- the values of units are 32, each in -16 to 16
+pub units-sized : (indicators : List ℤ) → ((s : ℕ) → s < 16 → Bounded 1 (entry indicators s)) → Sized (valuesOf indicators)
+units-sized indicators small =
+    record {
       long = values-length indicators;
       small = λ j h.
-          let b : Bounded 16 (entry (valuesOf indicators) j) = rw (value-at indicators j h) (value-small indicators j (given-units g .small)) in
+          let b : Bounded 16 (entry (valuesOf indicators) j) = rw (value-at indicators j h) (value-small indicators j small) in
           range-holds (negsuc 15) (pos 16) _ (range-low 15 _ b) (range-high 15 _ b);
-    })
+    }
+
+pub given-sized : GivenSized
+given-sized indicators values g = rw (← g .written) (units-sized indicators (given-units g .small))
 
 pub map-once : MapOnce
 map-once indicators values a b x y p r = (one-outcome (p .verdict-is) (r .verdict-is), one-outcome (p .values-is) (r .values-is))

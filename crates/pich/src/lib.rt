@@ -27,7 +27,7 @@ pub struct Paging {
 }
 
 // Np is one of the numbers of indicators that a frame can have.
-fn is_np(np: usize) -> bool
+pub fn is_np(np: usize) -> bool
     ensures { λ r. ⌜ r ≡ isNp np ⌝ }
 {
     match np {

@@ -7,12 +7,12 @@ use native.Mathlib.Omega.{arith}
 use borrow.Author.Tests.{ltb-true, ltb-false, ne-eqb, le-ltb}
 use lib.Bits.{bitXor, xor-zero-r}
 use lib.Dec.{ltb, lit<}
-use lib.IntN.{ℤ, pos, negsuc, negℤ, _-ℤ_, +ℤ-idl}
+use lib.IntN.{ℤ, pos, negsuc, negℤ, _-ℤ_}
 use mir.Syntax.{w32}
 use mir.Val.{SFits, boolByte, toZ, ofZ}
-use mir.ValLaws.{toZ-ofZ}
 use Rattle.run.proofs.Ranges.{range-parts}
 use Rattle.whole.specs.Bound.{Bounded}
+use Rattle.whole.proofs.Bits.{minus-fits, minus-reads}
 use Rattle.whole.proofs.Bound.{b-neg, b-range, fits-by}
 use Rattle.sttd.specs.Rule.{barDigit}
 use Rattle.sttd.specs.Outcome.{valueIn}
@@ -65,11 +65,8 @@ module _ (v : ℤ) (ok : valueIn v ≡ true) where
   pub negated-fits : SFits w32 (negℤ v)
   negated-fits = fits-by (b-neg small) (lit< tt)
 
-  is-negated : pos 0 -ℤ toZ w32 (ofZ w32 v) ≡ negℤ v
-  is-negated = rw (toZ-ofZ w32 v value-fits) (+ℤ-idl (negℤ v))
-
-  pub minus-fits : SFits w32 (pos 0 -ℤ toZ w32 (ofZ w32 v))
-  minus-fits = rw is-negated negated-fits
+  pub minus-ok : SFits w32 (pos 0 -ℤ toZ w32 (ofZ w32 v))
+  minus-ok = minus-fits w32 small (lit< tt)
 
   pub minus-is : toZ w32 (ofZ w32 (pos 0 -ℤ toZ w32 (ofZ w32 v))) ≡ negℤ v
-  minus-is = rw is-negated (toZ-ofZ w32 (negℤ v) negated-fits)
+  minus-is = minus-reads w32 small (lit< tt) .is

@@ -3,12 +3,12 @@
 -- Assumes nothing.
 use mathlib.Core.Path.{_≡_, sym, _∙_, ap₂, subst}
 use Prim.Native.Nat.{ℕ, _+_, _*_, _^_, _<_}
-use lib.IntN.{ℤ, _+ℤ_, _-ℤ_, _*ℤ_}
+use lib.IntN.{ℤ, pos, negℤ, _+ℤ_, _-ℤ_, _*ℤ_, +ℤ-idl}
 use mir.Syntax.{Width}
 use mir.Val.{SFits, hbits, toZ, ofZ}
 use mir.Facts.{toZ-ofZ}
 use Rattle.whole.specs.Bound.{Bounded}
-use Rattle.whole.proofs.Bound.{b-sum, b-diff, b-product, fits-by}
+use Rattle.whole.proofs.Bound.{b-sum, b-neg, b-diff, b-product, fits-by}
 
 pub record Reads (w : Width) (n : ℕ) (z : ℤ) (A : ℕ) : Type 0 where
   pub is : toZ w n ≡ z
@@ -43,3 +43,14 @@ module _ {w : Width} {m n : ℕ} {x y : ℤ} {A B : ℕ} (p : Reads w m x A) (q 
 
   pub r-product : A * B < 2 ^ hbits w → Reads w (ofZ w (toZ w m *ℤ toZ w n)) (x *ℤ y) (A * B)
   r-product t = kept (ap₂ (λ u v. u *ℤ v) (p .is) (q .is)) (b-product (p .within) (q .within)) t
+
+-- the code's 0 - v
+module _ (w : Width) {A : ℕ} {v : ℤ} (b : Bounded A v) (l : A < 2 ^ hbits w) where
+  is-negated : pos 0 -ℤ toZ w (ofZ w v) ≡ negℤ v
+  is-negated = rw (r-in {w = w} b l .is) (+ℤ-idl (negℤ v))
+
+  pub minus-fits : SFits w (pos 0 -ℤ toZ w (ofZ w v))
+  minus-fits = written is-negated (b-neg b) l
+
+  pub minus-reads : Reads w (ofZ w (pos 0 -ℤ toZ w (ofZ w v))) (negℤ v) A
+  minus-reads = kept is-negated (b-neg b) l

@@ -1,11 +1,11 @@
 -- `sttd::negated` meets its contract.
 -- Assumes nothing.
-use Rattle.sttd.proofs.Bars.{minus-fits, minus-is}
+use Rattle.sttd.proofs.Bars.{minus-ok, minus-is}
 use Rattle.sttd.proofs.negated.Statement.{statement}
 use Rattle.sttd.proofs.negated.Tie as tie
 
 sub-result : tie.Need-sub-result
-sub-result c = minus-fits (c .args .v) (c .pre)
+sub-result c = minus-ok (c .args .v) (c .pre)
 
 returns : tie.Need-returns
 returns c = minus-is (c .args .v) (c .pre)

@@ -1,0 +1,31 @@
+-- `job::tell` meets its contract.
+-- Assumes nothing.
+use mathlib.Core.Path.{sym, _∙_}
+use native.Mathlib.Omega.{arith}
+use Rattle.job.proofs.Records.{prints-refused, prints-done}
+use Rattle.job.proofs.Checks.{room-done}
+use borrow.Author.Needs.{needs}
+use Rattle.job.proofs.tell.Statement.{statement}
+use Rattle.job.proofs.tell.Tie as tie
+
+unless-requires : tie.Need-unless-requires
+unless-requires c κs = search needs
+
+returns : tie.Need-returns
+returns c =
+    let e = c .before .before .unless .ensures in
+    record { verdict-is = e; prints = prints-refused _ _ _ (rw e at (c .if1 .taken)) }
+
+refusal-requires : tie.Need-refusal-requires
+refusal-requires c κs = room-done _ _ (rw (c .before .before .before .unless .ensures) at (c .before .if1 .left))
+
+same-length : tie.Need-same-length
+same-length c = search needs
+
+returns-2 : tie.Need-returns-2
+returns-2 c =
+    let e = c .before .before .before .before .before .before .unless .ensures in
+    record { verdict-is = e; prints = prints-done _ (rw e at (c .before .before .before .before .if1 .left)) (c .before .before .refusal .ensures) }
+
+pub tell-spec : {M : Type 1} → statement M
+tell-spec = tie.close (tie.spec unless-requires returns refusal-requires same-length returns-2)

@@ -1,0 +1,26 @@
+-- Document 01, 'Job file and program': what can be wrong with a job file itself, and the number and offset of each case.
+-- Assumes nothing.
+use Prim.Native.Nat.{ℕ}
+use mathlib.Core.Bool.{Bool, cond}
+use Rattle.run.specs.declared.Verdict.{Verdict}
+use Rattle.run.specs.Refusals.{jobRefused}
+use Rattle.run.specs.Verdicts.{refused, done}
+use Rattle.job.specs.declared.fault.Fault.{Fault}
+use Rattle.job.specs.declared.fault.Fault.the-variants.{OverLong, WrongMark, UnknownVersion, UnknownKind, EndsEarly, BytesAfter}
+
+-- 'At most 65535 bytes'
+abbrev pub limit : ℕ
+limit = 65535
+
+-- every case is 13; the place is a byte offset
+unfoldable pub verdictOf : Fault → Verdict
+verdictOf OverLong = refused jobRefused limit
+verdictOf (WrongMark offset) = refused jobRefused offset
+verdictOf (UnknownVersion offset) = refused jobRefused offset
+verdictOf (UnknownKind offset) = refused jobRefused offset
+verdictOf (EndsEarly offset) = refused jobRefused offset
+verdictOf (BytesAfter offset) = refused jobRefused offset
+
+-- refused for the fault where the test fails
+unfoldable pub check : Bool → Fault → Verdict
+check ok fault = cond ok done (verdictOf fault)

@@ -1,0 +1,6 @@
+pub mod Faults
+pub mod Text
+pub mod Rule
+pub mod Outcome
+pub mod Ready
+pub mod Printed

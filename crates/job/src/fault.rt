@@ -1,0 +1,58 @@
+// What can be wrong with a job file itself, by name; a mapper's refusals are its own.
+use run::Verdict;
+use run::refusal;
+ghost use mathlib.Core.Path.{_≡_};
+ghost use Rattle.job.specs.Faults.{verdictOf, check};
+
+// Each fault knows its offset in the file.
+pub(crate) enum Fault {
+    // the file has more than 65535 bytes
+    OverLong,
+    // a byte of the mark 'SLT' is another
+    WrongMark(usize),
+    // a byte of the version is another
+    UnknownVersion(usize),
+    // no record has this kind
+    UnknownKind(usize),
+    // a byte is missing: the offset is the file's length
+    EndsEarly(usize),
+    // a byte stands behind the last record
+    BytesAfter(usize),
+}
+
+fn bad_file(place: usize) -> Verdict
+    ensures { λ r. ⌜ r ≡ record { number = 13; place = place } ⌝ }
+{
+    Verdict {
+        number: refusal::JOB,
+        place,
+    }
+}
+
+// The number and the place that a fault is refused with.
+pub(crate) fn verdict_of(fault: Fault) -> Verdict
+    ensures { λ r. ⌜ r ≡ verdictOf fault ⌝ }
+{
+    match fault {
+        Fault::OverLong => bad_file(65535),
+        Fault::WrongMark(at) => bad_file(at),
+        Fault::UnknownVersion(at) => bad_file(at),
+        Fault::UnknownKind(at) => bad_file(at),
+        Fault::EndsEarly(at) => bad_file(at),
+        Fault::BytesAfter(at) => bad_file(at),
+    }
+}
+
+// Refused for the fault where the test fails.
+pub(crate) fn check(ok: bool, fault: Fault) -> Verdict
+    ensures { λ r. ⌜ r ≡ check ok fault ⌝ }
+{
+    if ok {
+        Verdict {
+            number: 0,
+            place: 0,
+        }
+    } else {
+        verdict_of(fault)
+    }
+}

@@ -1,0 +1,153 @@
+// The lines that are printed: of the header, of a record of each kind, of a refusal.
+use crate::Told;
+use crate::text;
+use run::Verdict;
+ghost use mathlib.Core.Path.{_≡_};
+ghost use mathlib.Core.Bool.{true};
+ghost use Prim.Native.Nat.{_+_, _≤_, _<_};
+ghost use lib.IntN.{pos, negsuc};
+ghost use lib.ListN.{length, getD};
+ghost use Rattle.run.specs.First.{Every};
+ghost use Rattle.run.specs.Ranges.{inRange};
+ghost use Rattle.job.specs.Rule.{indicatorOf, indicatorsOf, headLine, aichLine, pichLine, dpchLine, recordLine, refusalLine};
+ghost use Rattle.job.specs.Text.{Wrote};
+ghost use Rattle.job.specs.Outcome.{mapperVerdict, Writes};
+ghost use Rattle.job.specs.Ready.{Whole, Roomy, AichRecord, PichRecord, DpchRecord, MapsSlot};
+
+// The header's.
+pub(crate) fn head(count: usize, line: &mut [u8]) -> usize
+    requires { ⌜ (count < 256) × Roomy (now line) ⌝ }
+    ensures { λ r. ⌜ Wrote 0 (headLine count) (now (line .entry)) r (now (line .exit)) ⌝ }
+{
+    let mark = text::word(b"SLT 1 ", line, 0);
+    text::number(count, b'\n', line, mark)
+}
+
+// A refusal's.
+pub(crate) fn refusal(refused: Verdict, line: &mut [u8]) -> usize
+    requires { ⌜ Roomy (now line) ⌝ }
+    ensures { λ r. ⌜ Wrote 0 (refusalLine refused) (now (line .entry)) r (now (line .exit)) ⌝ }
+{
+    let word = text::word(b"refused ", line, 0);
+    let number = text::number(refused.number, b' ', line, word);
+    text::number(refused.place, b'\n', line, number)
+}
+
+fn aich_line(values: &[i32], line: &mut [u8]) -> usize
+    requires { ⌜ Every (inRange (negsuc 15) (pos 16) (now values)) (length (now values)) × (length (now values) ≡ 32) × Roomy (now line) ⌝ }
+    ensures { λ r. ⌜ Wrote 0 (aichLine (now (values .entry))) (now (line .entry)) r (now (line .exit)) ⌝ }
+{
+    let word = text::word(b"AICH", line, 0);
+    let last = text::values(values, line, word);
+    text::byte(b'\n', line, last)
+}
+
+fn pich_line(np: usize, frame: &[u8], line: &mut [u8]) -> usize
+    requires { ⌜ (np < 256) × (length (now frame) ≡ 300) × Roomy (now line) ⌝ }
+    ensures { λ r. ⌜ Wrote 0 (pichLine np (now (frame .entry))) (now (line .entry)) r (now (line .exit)) ⌝ }
+{
+    let word = text::word(b"PICH ", line, 0);
+    let number = text::number(np, b' ', line, word);
+    text::row(frame, line, number)
+}
+
+fn dpch_line(format: usize, slot: usize, digits: &[u8], line: &mut [u8]) -> usize
+    requires { ⌜ (format ≤ 16) × (slot ≤ 14) × (length (now digits) ≤ 1280) × Roomy (now line) ⌝ }
+    ensures { λ r. ⌜ Wrote 0 (dpchLine format slot (now (digits .entry))) (now (line .entry)) r (now (line .exit)) ⌝ }
+{
+    let word = text::word(b"DPCH ", line, 0);
+    let first = text::number(format, b' ', line, word);
+    let second = text::number(slot, b' ', line, first);
+    text::row(digits, line, second)
+}
+
+// 0, 1, 2 for 0, +1, -1; the mapper refuses any other.
+fn indicator_of(byte: u8) -> i32
+    ensures { λ r. ⌜ r ≡ indicatorOf byte ⌝ }
+{
+    if byte == 2 { -1 } else { byte as i32 }
+}
+
+fn indicators_of(r: &[u8]) -> [i32; 16]
+    requires { ⌜ length (now r) ≡ 17 ⌝ }
+    ensures { λ a. ⌜ a ≡ indicatorsOf (now (r .entry)) ⌝ }
+{
+    let mut indicators = [0i32; 16];
+    let mut s = 0;
+    while s < 16 {
+        indicators[s] = indicator_of(r[1 + s]);
+        s += 1;
+    }
+    indicators
+}
+
+fn aich_record(r: &[u8], line: &mut [u8]) -> Told
+    requires { ⌜ AichRecord (now r) × Roomy (now line) ⌝ }
+    ensures { λ told. ⌜ Writes (now (r .entry)) (now (line .entry)) told (now (line .exit)) ⌝ }
+{
+    let indicators = indicators_of(r);
+    let mut values = [0i32; 32];
+    let verdict = aich::map(&indicators, &mut values);
+    if verdict.number != 0 {
+        return Told { verdict, length: 0 };
+    }
+    let length = aich_line(&values, line);
+    Told { verdict, length }
+}
+
+fn pich_record(r: &[u8], line: &mut [u8]) -> Told
+    requires { ⌜ PichRecord (now r) × Roomy (now line) ⌝ }
+    ensures { λ told. ⌜ Writes (now (r .entry)) (now (line .entry)) told (now (line .exit)) ⌝ }
+{
+    let np = r[1] as usize;
+    let n = r.len();
+    let mut frame = [0u8; 300];
+    let verdict = pich::map(np, &r[2..n], &mut frame);
+    if verdict.number != 0 {
+        return Told { verdict, length: 0 };
+    }
+    let length = pich_line(np, &frame, line);
+    Told { verdict, length }
+}
+
+// The slot of a DPCH record's fields.
+fn map_slot(r: &[u8], digits: &mut [u8]) -> Verdict
+    requires { ⌜ DpchRecord (now r) ⌝ }
+    ensures { λ v. ⌜ MapsSlot (now (r .entry)) (now (digits .entry)) v (now (digits .exit)) ⌝ }
+{
+    let format = r[1] as usize;
+    let slot = r[2] as usize;
+    let tpc = r[3] as usize;
+    let f = dpch::format_of(format);
+    let split = 4 + f.tfci;
+    let n = r.len();
+    slot::map(format, slot, tpc, &r[split..n], &r[4..split], digits)
+}
+
+fn dpch_record(r: &[u8], line: &mut [u8]) -> Told
+    requires { ⌜ DpchRecord (now r) × Roomy (now line) ⌝ }
+    ensures { λ told. ⌜ Writes (now (r .entry)) (now (line .entry)) told (now (line .exit)) ⌝ }
+{
+    let format = r[1] as usize;
+    let f = dpch::format_of(format);
+    let size = f.slot;
+    let mut digits = [0u8; 1280];
+    let verdict = map_slot(r, &mut digits[0..size]);
+    if verdict.number != 0 {
+        return Told { verdict, length: 0 };
+    }
+    let length = dpch_line(format, r[2] as usize, &digits[0..size], line);
+    Told { verdict, length }
+}
+
+// The line of a whole record, or the mapper's refusal and the line as it was.
+pub(crate) fn record(r: &[u8], line: &mut [u8]) -> Told
+    requires { ⌜ Whole (now r) × Roomy (now line) ⌝ }
+    ensures { λ told. ⌜ Writes (now (r .entry)) (now (line .entry)) told (now (line .exit)) ⌝ }
+{
+    match r[0] {
+        1 => aich_record(r, line),
+        2 => pich_record(r, line),
+        _ => dpch_record(r, line),
+    }
+}
