@@ -1,13 +1,14 @@
-# Targets: test (the gate), lib (the proved archive for C), second, host, bench.
+# Targets: run (the program on an example job), test (the gate), lib (the proved archive for C), slotline (the program), second, jobs, host, bench.
 CC ?= gcc
 CFLAGS = -std=c11 -O2 -g -Wall -Wextra -Werror
 SANITIZE = -fsanitize=address,undefined -fno-sanitize-recover=all
 LIB = target/staticlib/libslt.a
+SLOTLINE = target/bin/slotline
 
-.PHONY: test lib fmt second host bench clean
+.PHONY: test lib slotline run fmt second jobs host bench clean
 
 # rt ci comes last: it proves every crate from nothing, tries every must-fail edit, and prints the verdict.
-test: fmt second host
+test: fmt second jobs host
 	rt ci
 
 fmt:
@@ -17,10 +18,25 @@ fmt:
 lib:
 	rt staticlib slt
 
+# Proves the program that reads a job file and what it stands on, and compiles it.
+slotline:
+	rt check slotline
+
+# The program on an example job. On a file of one's own: target/bin/slotline < FILE
+run: slotline
+	$(SLOTLINE) < examples/three_kinds.slt
+
 # The independent second program: its own tests, then the comparison with the archive.
 second: lib
 	cd second && cargo test --quiet --release --offline
 	cd second && cargo run --quiet --release --offline
+
+# The program on many job files and on the examples, against the text of the second program's rules; then the generator
+# that docs/JOBFILE.md shows, whose job the rules print as well.
+jobs: slotline
+	cd second && cargo run --quiet --release --offline --bin jobs -- $(abspath $(SLOTLINE)) ../examples
+	sh examples/try_generator.sh $(abspath $(SLOTLINE)) target/generator
+	cd second && cargo run --quiet --release --offline --bin jobs -- --print < ../target/generator/job.slt | cmp - ../target/generator/expected
 
 # A C host under the sanitizers; what it prints is compared with what it should.
 host: lib
@@ -29,11 +45,14 @@ host: lib
 	target/host/host > target/host/stdout
 	cmp target/host/stdout examples/host.stdout
 
-# Ratios to plain C and to memcpy, in one run. Not a test: nothing fails by its numbers.
-bench: lib
+# Ratios to plain C and to memcpy, in one run. Not a test: nothing fails by its numbers. The program slotline is timed
+# against a program of its own in plain C.
+PLAIN_PROGRAM = bench/plain_slotline.c
+bench: lib slotline
 	mkdir -p target/bench
-	$(CC) -std=c11 -O3 -Wall -Wextra -Werror -Iinclude -Ibench bench/*.c $(LIB) -o target/bench/bench
-	target/bench/bench
+	$(CC) -std=c11 -O3 -Wall -Wextra -Werror -Ibench $(PLAIN_PROGRAM) bench/plain_dpch.c bench/plain_aich.c -o target/bench/plain_slotline
+	$(CC) -std=c11 -O3 -Wall -Wextra -Werror -Iinclude -Ibench $(filter-out $(PLAIN_PROGRAM),$(wildcard bench/*.c)) $(LIB) -o target/bench/bench
+	target/bench/bench $(SLOTLINE) target/bench/plain_slotline
 
 clean:
 	rm -rf target

@@ -8,7 +8,7 @@
 
 enum { ROUNDS = 60, TARGET_NS = 400000 };
 
-static double now_ns(void) {
+double now_ns(void) {
     struct timespec t;
     clock_gettime(CLOCK_MONOTONIC, &t);
     return (double)t.tv_sec * 1e9 + (double)t.tv_nsec;
@@ -52,10 +52,12 @@ void bench_row(const char *name, way library, way plain, void *context, size_t b
            best_library / best_copy, best_library, best_plain);
 }
 
-int main(void) {
+/* With two paths, of slotline and of its yardstick, the program is timed as well. */
+int main(int n_arguments, char **arguments) {
     bench_dpch();
     bench_frame();
     bench_pccpch();
     bench_aich();
+    if (n_arguments == 3) bench_slotline(arguments[1], arguments[2]);
     return 0;
 }

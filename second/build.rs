@@ -1,4 +1,4 @@
-//! Links the library under judgement, `libslt.a`.
+//! Says where the library under judgement is, `libslt.a`; `src/ffi.rs` links it.
 //!
 //! The archive is looked for in `../target/staticlib`. SLT_LIB_DIR names another directory, so that the
 //! comparison can itself be tried against an archive with known mistakes in it.
@@ -14,5 +14,4 @@ fn main() {
     println!("cargo::rerun-if-env-changed=SLT_LIB_DIR");
     println!("cargo::rerun-if-changed={}", directory.join("libslt.a").display());
     println!("cargo::rustc-link-search=native={}", directory.display());
-    println!("cargo::rustc-link-lib=static=slt");
 }

@@ -2,12 +2,15 @@
 //!
 //! A lent buffer owns the elements behind its pointer and gives its true length, no two buffers overlap, and this
 //! program has one thread: that is all a caller owes.
+//!
+//! The archive is linked here, once for all calls: so the comparison of job files does without it.
 
 use crate::answer::Answer;
 use crate::lent::Lent;
 
 // PICH
 
+#[link(name = "slt", kind = "static")]
 unsafe extern "C" {
     fn slt_pich_q(np: usize, pi: usize, sfn: usize) -> u64;
     fn slt_pich_map(np: usize, indicators: *const u8, n_indicators: usize, frame: *mut u8, n_frame: usize) -> u64;

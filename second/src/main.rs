@@ -4,23 +4,22 @@
 //! library is made on many inputs and compared with it (`compare/`): the number, the place, the value, and every
 //! element of every lent run afterwards. The first difference is printed and ends the run with status 1.
 //!
-//! One channel is one file in `rules/` and one in `compare/`; it is run by one line of `CHANNELS` below.
+//! One channel is one file in `rules/` and one in `compare/`; it is run by one line of `CHANNELS` below. The program
+//! that reads job files is compared by a program of its own, `bin/jobs/`.
 
 #![deny(warnings)]
 #![deny(unsafe_code)]
 // The document speaks of digits by their index, and so do the loops here.
 #![allow(clippy::needless_range_loop)]
 
-mod answer;
 mod compare;
 #[allow(unsafe_code)]
 mod ffi;
 mod judge;
 mod lent;
-mod random;
-mod rules;
 
 use judge::Judge;
+use second::{answer, fields, random, rules};
 
 /// The name of a channel and what runs all of its comparisons.
 type Channel = (&'static str, fn(&mut Judge));

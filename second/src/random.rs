@@ -9,6 +9,8 @@ impl Random {
         Random { state: seed }
     }
 
+    // The sequence has no end, so it is no iterator.
+    #[allow(clippy::should_implement_trait)]
     pub fn next(&mut self) -> u64 {
         self.state = self.state.wrapping_add(0x9e37_79b9_7f4a_7c15);
         mixed(self.state)

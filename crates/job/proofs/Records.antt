@@ -7,10 +7,10 @@ use Prim.Native.Nat.{ℕ, _+_, _-_, _≤_, _<_}
 use native.Mathlib.Nat.{zero-add}
 use native.Mathlib.Omega.{arith}
 use borrow.Rule.Slice.PartMut.{putMid, midOf, mid-len}
-use borrow.Author.Tests.{leb-true}
+use borrow.Author.Tests.{leb-true, eqb-true, eqb-false}
 use lib.Dec.{eqb, lit<}
 use lib.IntN.{ℤ, pos, negsuc}
-use lib.ListN.{length, getD, take, drop, length-drop}
+use lib.ListN.{length, getD, take, drop, length-append, length-drop}
 use lib.Seq.{take-all, take-at}
 use Rattle.run.specs.declared.Verdict.{Verdict}
 use Rattle.run.specs.First.{Every}
@@ -35,7 +35,7 @@ use Rattle.aich.proofs.Exact.{units-sized}
 use Rattle.job.specs.Rule.{byKind, sizeOf, indicatorOf, indicatorsOf, secondOf, pagingOf, slotNumberOf, tpcOf, tfciOf, dataOf, aichLine, pichLine, dpchLine, recordLine}
 use Rattle.job.specs.Outcome.{secondVerdict, mapperVerdict, Prints, Writes}
 use Rattle.job.specs.Ready.{Whole, AichRecord, PichRecord, DpchRecord, MapsSlot}
-use Rattle.job.specs.Text.{Wrote}
+use Rattle.job.specs.Text.{put, Wrote}
 use Rattle.job.proofs.ByKind.{by-aich, by-pich, by-dpch, kind-last}
 
 -- ---- a line is printed where the call is done
@@ -177,3 +177,16 @@ whole-dpch r w a p =
       format-ok = leb-true _ _ (unless-done _ 1 0 (lit< tt) (rw (by-dpch (getD r 0 0) _ _ _ a p) at (w .second-ok)));
       sized = w .sized ∙ by-dpch _ _ _ _ a p;
     }
+
+-- a caller may take what was printed off the front of the line
+pub prints-fit : {v : Verdict} {text line line′ : List ℕ} {n : ℕ} → Prints v text line n line′ → n ≤ length line′
+unfolding put
+prints-fit {v} {text} {line} {line′} {n} p = pick (eqb (v .number) 0) refl
+  where
+    pick : (b : Bool) → eqb (v .number) 0 ≡ b → n ≤ length line′
+    pick true e =
+        let h = eqb-true _ _ e in
+        let l = p .length-is ∙ leaves-done v _ _ h in
+        let m = ap length (p .line-is ∙ leaves-done v _ _ h) ∙ length-append text (drop (0 + length text) line) in
+        omega arith
+    pick false e = let l = p .length-is ∙ leaves-refused v _ _ (eqb-false _ _ e) in omega arith

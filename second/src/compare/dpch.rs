@@ -3,10 +3,11 @@
 use super::lengths;
 use crate::answer::Answer;
 use crate::ffi;
+use crate::fields::{NO_DIGITS, break_tfci, lengths_of, put_somewhere, random_tfci};
 use crate::judge::{Judge, room_in_words, shortened};
 use crate::lent::Lent;
 use crate::random::Random;
-use crate::rules::dpch::{self as rules, Fields, Format};
+use crate::rules::dpch::{self as rules, Fields};
 use std::collections::HashMap;
 
 /// The first bad formats, and numbers that look like a good one to a program that keeps too few bits.
@@ -26,9 +27,6 @@ const BAD_COMMANDS: [usize; 12] = [
 
 /// What a digit is damaged to.
 pub const DAMAGE: [u8; 5] = [0, 1, 2, 3, 255];
-
-/// Digits that are never allowed.
-pub const NO_DIGITS: [u8; 5] = [3, 4, 127, 128, 255];
 
 /// Every comparison of the channel.
 pub fn all(judge: &mut Judge) {
@@ -136,22 +134,9 @@ impl Read {
 
 // The inputs.
 
-/// The lengths of a format that exists.
-pub fn lengths_of(number: usize) -> Format {
-    rules::format(number).expect("formats 0 to 16")
-}
-
 /// The digits of a number in base `base`, `length` of them.
 fn digits_of(number: usize, base: usize, length: usize) -> Vec<u8> {
     (0..length as u32).map(|place| (number / base.pow(place) % base) as u8).collect()
-}
-
-/// TFCI digits that keep the rule: bits, or now and then all DTX where that is allowed.
-pub fn random_tfci(random: &mut Random, format: &Format) -> Vec<u8> {
-    if format.tfci_may_be_dtx && random.below(3) == 0 {
-        return vec![2; format.tfci];
-    }
-    random.digits(format.tfci, 2)
 }
 
 /// A call that is done: right lengths, random good digits.
@@ -196,21 +181,6 @@ pub fn change_length(run: &mut Option<Vec<u8>>, random: &mut Random) {
         held.resize(elements, 1);
         held
     });
-}
-
-/// Puts one of `values` somewhere in the run, unless it is empty.
-pub fn put_somewhere(run: &mut [u8], values: &[u8], random: &mut Random) {
-    if !run.is_empty() {
-        run[random.below(run.len())] = random.pick(values);
-    }
-}
-
-/// Turns a digit of the TFCI to the other kind, DTX or not; that always breaks the rule.
-pub fn break_tfci(tfci: &mut [u8], random: &mut Random) {
-    if !tfci.is_empty() {
-        let index = random.below(tfci.len());
-        tfci[index] = if tfci[index] == 2 { random.below(2) as u8 } else { 2 };
-    }
 }
 
 // Map

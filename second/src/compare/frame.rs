@@ -1,17 +1,14 @@
 //! The DPCH frame: the library's two calls against the rules.
 
-use super::dpch::{BAD_FORMATS, DAMAGE, NO_DIGITS};
-use super::dpch::{break_tfci, change_length, lengths_of, other_length, put_somewhere, random_tfci, spoil_tpc};
+use super::dpch::{BAD_FORMATS, DAMAGE, change_length, other_length, spoil_tpc};
 use super::lengths;
 use crate::answer::Answer;
 use crate::ffi;
+use crate::fields::{NO_COMMANDS, NO_DIGITS, break_tfci, lengths_of, put_somewhere, random_tfci};
 use crate::judge::{Judge, room_in_words, shortened};
 use crate::lent::Lent;
 use crate::random::Random;
 use crate::rules::frame::{self as rules, Fields, SLOTS};
-
-/// Commands that are none.
-const NO_COMMANDS: [u8; 5] = [2, 3, 127, 128, 255];
 
 /// Every comparison of the channel.
 pub fn all(judge: &mut Judge) {

@@ -2,11 +2,13 @@
 //!
 //! A rule takes what the call is given: numbers, the runs it reads, and the lengths of the runs it is to write. It
 //! answers the runs it would write, or the refusal. Numbers of refusals stand as digits, as they do in the document.
+//! `job` is the rule of the program: it takes the bytes of a file and answers the text that is printed.
 
 pub mod aich;
 pub mod combiner;
 pub mod dpch;
 pub mod frame;
+pub mod job;
 pub mod pccpch;
 pub mod pich;
 pub mod sample;

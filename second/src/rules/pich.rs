@@ -10,7 +10,7 @@ pub const TAIL: usize = 288;
 const DTX: u8 = 2;
 
 /// Np is 18, 36, 72 or 144: else 8.
-fn check_np(np: usize) -> Result<(), Refusal> {
+pub fn check_np(np: usize) -> Result<(), Refusal> {
     match np {
         18 | 36 | 72 | 144 => Ok(()),
         _ => refuse(8, 0),

@@ -1,0 +1,103 @@
+//! The comparison of job files: the program `slotline` is run on many files, and every byte that it prints is compared
+//! with what the rules print (`rules/job.rs`). The first difference is printed and ends the run with status 1.
+//!
+//!     jobs SLOTLINE EXAMPLES          compares; the stored examples are made anew and compared, too
+//!     jobs --write-examples EXAMPLES  stores the examples
+//!     jobs --print                    prints what the rules print for the file on standard input
+//!
+//! Files come in lists. Each list is one line of `LISTS` below, with a name that says what it covers.
+
+#![deny(warnings)]
+#![deny(unsafe_code)]
+
+mod chance;
+mod examples;
+mod faults;
+mod fields;
+mod good;
+mod header;
+mod limits;
+mod run;
+mod shapes;
+mod valid;
+
+use good::Job;
+use run::Tally;
+use second::rules;
+use std::io::{Read, Write};
+use std::path::Path;
+use std::process::ExitCode;
+
+/// The name of a list and what makes its files.
+type List = (&'static str, fn() -> Vec<Job>);
+
+const LISTS: &[List] = &[
+    ("every format in every slot, both commands, TFCI silent where it may be", valid::formats),
+    ("data that is all 0, all 1, all DTX, and each in turn", valid::extreme_data),
+    ("every Np, with none, one, some and all indicators", valid::paging),
+    ("AICH indicators: one of each sign, all, and some", valid::acquisition),
+    ("records of all kinds together", valid::mixes),
+    ("each header byte, every wrong value", header::wrong_bytes),
+    ("headers cut short, with and without wrong bytes", header::cut_short),
+    ("every count byte", header::counts),
+    ("every unknown kind", shapes::unknown_kinds),
+    ("every Np byte", shapes::np_bytes),
+    ("every format byte", shapes::format_bytes),
+    ("each truncation of a file of all three kinds", shapes::truncations),
+    ("every format and Np, cut round the ends of its fields", shapes::cut_fields),
+    ("bytes after the last record", shapes::bytes_after),
+    ("every slot byte and every command byte", fields::slots_and_commands),
+    ("the fields of every format, damaged at their ends", fields::dpch),
+    ("AICH bytes that are no indicators", fields::aich),
+    ("PICH bytes that are no indicators", fields::pich),
+    ("two faults in one record, or in the file and a record", faults::together),
+    ("two faults in two records", faults::apart),
+    ("the longest file, and longer ones", limits::lengths),
+    ("255 records", limits::records),
+    ("files that arrive in pieces", limits::pieces),
+    ("fields damaged at random", chance::damaged_fields),
+    ("random bytes after a good header", chance::random_bytes),
+    ("good files flipped, cut, lengthened and torn at random", chance::mutations),
+];
+
+/// Every number that a job can be refused with, and 0 for done.
+const NUMBERS: [u16; 9] = [0, 1, 2, 4, 5, 6, 8, 11, 13];
+
+fn main() -> ExitCode {
+    let arguments: Vec<String> = std::env::args().skip(1).collect();
+    let words: Vec<&str> = arguments.iter().map(String::as_str).collect();
+    let outcome = match words[..] {
+        ["--print"] => print(),
+        ["--write-examples", directory] => examples::write(Path::new(directory)),
+        [slotline, directory] => compare(Path::new(slotline), Path::new(directory)),
+        _ => Err("usage: jobs SLOTLINE EXAMPLES | jobs --write-examples EXAMPLES | jobs --print".to_string()),
+    };
+    match outcome {
+        Ok(()) => ExitCode::SUCCESS,
+        Err(what) => {
+            println!("{what}");
+            ExitCode::FAILURE
+        }
+    }
+}
+
+/// Every list in turn, then the examples.
+fn compare(slotline: &Path, directory: &Path) -> Result<(), String> {
+    let mut tally = Tally::new(slotline);
+    for (name, list) in LISTS {
+        tally.compare(name, &list())?;
+    }
+    examples::check_stored(directory)?;
+    tally.compare("the stored examples", &examples::jobs())?;
+    tally.must_have_seen(&NUMBERS)?;
+    println!("jobs: {} files, all equal", tally.files());
+    Ok(())
+}
+
+/// What the rules print, for a look at one file.
+fn print() -> Result<(), String> {
+    let mut file = Vec::new();
+    std::io::stdin().read_to_end(&mut file).map_err(|error| format!("standard input: {error}"))?;
+    let text = rules::job::printed(&file);
+    std::io::stdout().write_all(text.as_bytes()).map_err(|error| format!("standard output: {error}"))
+}

@@ -1,0 +1,12 @@
+//! What both programs of this package stand on: the rules, written a second time from the rules document alone
+//! (`rules/`), and the inputs that both try. Nothing here knows the library or the program that is judged.
+
+#![deny(warnings)]
+#![deny(unsafe_code)]
+// The document speaks of digits by their index, and so do the loops here.
+#![allow(clippy::needless_range_loop)]
+
+pub mod answer;
+pub mod fields;
+pub mod random;
+pub mod rules;
