@@ -1,6 +1,7 @@
 /* slt.h: the slot mapper for a C or C++ host. docs/INTERFACE.md says the same at length.
  *
- * Every call answers one 64-bit number that holds a number, a place and a value:
+ * Every call but those for samples answers one 64-bit number that holds a number, a place and a value; a sample call answers
+ * such a number beside the two parts of its sample:
  *
  *     bits  0 to 15   number   0 done, else the refusal (the table of docs/INTERFACE.md)
  *     bits 16 to 47   place    where, 0 where done

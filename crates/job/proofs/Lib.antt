@@ -5,3 +5,4 @@ pub mod ByKind
 pub mod Checks
 pub mod Records
 pub mod Headed
+pub mod Exact

@@ -4,3 +4,4 @@ pub mod Rule
 pub mod Outcome
 pub mod Ready
 pub mod Printed
+pub mod Exact
