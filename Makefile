@@ -5,18 +5,22 @@ SANITIZE = -fsanitize=address,undefined -fno-sanitize-recover=all
 LIB = target/staticlib/libslt.a
 SLOTLINE = target/bin/slotline
 
-.PHONY: test lib slotline run fmt second jobs host bench clean
+.PHONY: test lib slotline run fmt audit second jobs cases host bench clean
 
 # rt ci comes last: it proves every crate from nothing, tries every must-fail edit, and prints the verdict.
-test: fmt second jobs host
+test: fmt audit second jobs cases host
 	rt ci
 
 fmt:
 	rt fmt --check
 
-# Proves what the archive is made of, and compiles it.
+# Proves what the archive is made of, and compiles it: an object for each channel's C calls, in one archive.
+C_CALLS = slt_slot slt_frame slt_pich slt_pccpch slt_sttd slt_aich slt_combiner slt_sample
 lib:
-	rt staticlib slt
+	rt check $(C_CALLS)
+	for name in $(C_CALLS); do rt staticlib $$name || exit 1; done
+	rm -f $(LIB)
+	cd $(dir $(LIB)) && for name in $(C_CALLS); do ar x lib$$name.a || exit 1; done && ar crs $(notdir $(LIB)) $(addsuffix .o,$(C_CALLS))
 
 # Proves the program that reads a job file and what it stands on, and compiles it.
 slotline:
@@ -25,6 +29,10 @@ slotline:
 # The program on an example job. On a file of one's own: target/bin/slotline < FILE
 run: slotline
 	$(SLOTLINE) < examples/three_kinds.slt
+
+# docs/PROMISES.md against the source.
+audit:
+	python3 audit/promises.py
 
 # The independent second program: its own tests, then the comparison with the archive.
 second: lib
@@ -37,6 +45,10 @@ jobs: slotline
 	cd second && cargo run --quiet --release --offline --bin jobs -- $(abspath $(SLOTLINE)) ../examples
 	sh examples/try_generator.sh $(abspath $(SLOTLINE)) target/generator
 	cd second && cargo run --quiet --release --offline --bin jobs -- --print < ../target/generator/job.slt | cmp - ../target/generator/expected
+
+# What the program cases must print, printed anew by the second program; rt ci runs cases itself and compares it with the same text.
+cases:
+	cd second && cargo run --quiet --release --offline --bin cases | cmp - ../crates/cases/stdout
 
 # A C host under the sanitizers; what it prints is compared with what it should.
 host: lib

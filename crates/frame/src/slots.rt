@@ -85,7 +85,7 @@ pub(crate) fn check_digits(format: usize, xs: &[u8]) -> Verdict
     while k < 15 {
         let i = k * w;
         let j = i + w;
-        let verdict = slot::part_verdict(format, k, &xs[i..j], i as u32);
+        let verdict = slot_read::part_verdict(format, k, &xs[i..j], i as u32);
         if verdict.number != 0 {
             return verdict;
         }
@@ -114,7 +114,7 @@ pub(crate) fn take(format: usize, xs: &[u8], data: &mut [u8], tfci: &mut [u8], c
         let c = b + m;
         let i = k * w;
         let j = i + w;
-        let taken = slot::take(format, k, &xs[i..j], &mut data[a..e], &mut tfci[b..c]);
+        let taken = slot_read::take(format, k, &xs[i..j], &mut data[a..e], &mut tfci[b..c]);
         commands[k] = taken.tpc as u8;
         k += 1;
     }

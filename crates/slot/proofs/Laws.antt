@@ -156,6 +156,34 @@ module _ (f : Format) (s : Sound f) (slot tpc : ℕ) (d tfci : List ℕ) (data-l
         ∙ stretch 4 start (start + f .pilot) (lit< tt) (sym (start-pilot f)) refl))
         (omega arith)
 
+    -- the run after each part
+    abbrev after1 : List ℕ → List ℕ
+    after1 y1 = putMid 0 (f .data1 - 0) out y1
+
+    abbrev after2 : List ℕ → List ℕ → List ℕ
+    after2 y1 y2 = putMid (f .data1) (f .data1 + f .tpc - f .data1) (after1 y1) y2
+
+    abbrev after3 : List ℕ → List ℕ → List ℕ → List ℕ
+    after3 y1 y2 y3 = putMid (f .data1 + f .tpc) (f .data1 + f .tpc + f .tfci - (f .data1 + f .tpc)) (after2 y1 y2) y3
+
+    abbrev after4 : List ℕ → List ℕ → List ℕ → List ℕ → List ℕ
+    after4 y1 y2 y3 y4 =
+        putMid (f .data1 + f .tpc + f .tfci) (f .data1 + f .tpc + f .tfci + f .data2 - (f .data1 + f .tpc + f .tfci)) (after3 y1 y2 y3) y4
+
+    -- all five: y1 to y5 are what the parts came back as
+    pub all-written : (y1 y2 y3 y4 y5 rest : List ℕ) → rest ≡ drop (f .data1) d
+        → y1 ≡ over d (midOf 0 (f .data1 - 0) out)
+        → y2 ≡ replicate (length (midOf (f .data1) (f .data1 + f .tpc - f .data1) (after1 y1))) tpc
+        → y3 ≡ over tfci (midOf (f .data1 + f .tpc) (f .data1 + f .tpc + f .tfci - (f .data1 + f .tpc)) (after2 y1 y2))
+        → y4 ≡ over rest (midOf (f .data1 + f .tpc + f .tfci) (f .data1 + f .tpc + f .tfci + f .data2 - (f .data1 + f .tpc + f .tfci)) (after3 y1 y2 y3))
+        → y5 ≡ over (pilotSource (length (midOf (f .data1 + f .tpc + f .tfci + f .data2) (f .data1 + f .tpc + f .tfci + f .data2 + f .pilot - (f .data1 + f .tpc + f .tfci + f .data2)) (after4 y1 y2 y3 y4))) slot)
+        (midOf (f .data1 + f .tpc + f .tfci + f .data2) (f .data1 + f .tpc + f .tfci + f .data2 + f .pilot - (f .data1 + f .tpc + f .tfci + f .data2)) (after4 y1 y2 y3 y4))
+        → putMid (f .data1 + f .tpc + f .tfci + f .data2) (f .data1 + f .tpc + f .tfci + f .data2 + f .pilot - (f .data1 + f .tpc + f .tfci + f .data2)) (after4 y1 y2 y3 y4) y5
+        ≡ slotOf f slot tpc d tfci
+    all-written y1 y2 y3 y4 y5 rest r e1 e2 e3 e4 e5 =
+        pilot-written (after4 y1 y2 y3 y4) y5
+        (data2-written (after3 y1 y2 y3) y4 rest r (tfci-written (after2 y1 y2) y3 (tpc-written (after1 y1) y2 (data1-written y1 e1) e2) e3) e4) e5
+
 -- a run's part from a to its end is what is left of it
 pub rest-of : (a : ℕ) (xs : List ℕ) → take (length xs - a) (drop a xs) ≡ drop a xs
 rest-of a xs = take-all (length xs - a) (drop a xs) (simp length-drop (omega arith))

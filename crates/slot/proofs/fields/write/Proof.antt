@@ -4,7 +4,7 @@ use mathlib.Core.Path.{_≡_}
 use Prim.Native.Nat.{_+_, _≤_}
 use native.Mathlib.Omega.{arith}
 use denote.Ref.{now}
-use Rattle.slot.proofs.Laws.{sum, rest-of, data1-written, tpc-written, tfci-written, data2-written, pilot-written}
+use Rattle.slot.proofs.Laws.{sum, rest-of, all-written}
 use borrow.Author.Needs.{needs}
 use Rattle.slot.proofs.fields.write.Statement.{statement}
 use Rattle.slot.proofs.fields.write.Tie as tie
@@ -100,13 +100,13 @@ returns : tie.Need-returns
 returns c =
     let pre = c .before .before .before .before .before .before .before .before .before .before .before .before .before .before .before .before .before .before .before .before .before .before .before .before .before .before .before .before .pre in
     let a = c .before .before .before .before .before .before .before .before .before .before .before .before .before .before .before .before .before .before .before .before .before .before .before .before .before .before .before .before .args in
-    let p1 = data1-written (a .f) (pre .sound) (a .slot) (a .tpc) (now (a .«data»)) (now (a .tfci)) (pre .data-ok) (pre .tfci-ok) (now (a .out)) (pre .slot-ok) _ (c .before .before .before .before .before .before .before .before .before .before .before .before .before .before .before .before .before .before .before .copy .ensures) in
-    let p2 = tpc-written (a .f) (pre .sound) (a .slot) (a .tpc) (now (a .«data»)) (now (a .tfci)) (pre .data-ok) (pre .tfci-ok) (now (a .out)) (pre .slot-ok) _ _ p1 (c .before .before .before .before .before .before .before .before .before .before .before .before .before .before .before .fill .ensures) in
-    let p3 = tfci-written (a .f) (pre .sound) (a .slot) (a .tpc) (now (a .«data»)) (now (a .tfci)) (pre .data-ok) (pre .tfci-ok) (now (a .out)) (pre .slot-ok) _ _ p2 (c .before .before .before .before .before .before .before .before .before .before .before .copy2 .ensures) in
-    let p4 =
-    data2-written (a .f) (pre .sound) (a .slot) (a .tpc) (now (a .«data»)) (now (a .tfci)) (pre .data-ok) (pre .tfci-ok) (now (a .out)) (pre .slot-ok) _ _ _ (rest-of (a .f .data1) (now (a .«data»))) p3 (c .before .before .before .before .before .before .copy3 .ensures)
-    in
-    pilot-written (a .f) (pre .sound) (a .slot) (a .tpc) (now (a .«data»)) (now (a .tfci)) (pre .data-ok) (pre .tfci-ok) (now (a .out)) (pre .slot-ok) _ _ p4 (c .before .before .write-pilot .ensures)
+    all-written (a .f) (pre .sound) (a .slot) (a .tpc) (now (a .«data»)) (now (a .tfci)) (pre .data-ok) (pre .tfci-ok) (now (a .out)) (pre .slot-ok) _ _ _ _ _ _
+    (rest-of (a .f .data1) (now (a .«data»)))
+    (c .before .before .before .before .before .before .before .before .before .before .before .before .before .before .before .before .before .before .before .copy .ensures)
+    (c .before .before .before .before .before .before .before .before .before .before .before .before .before .before .before .fill .ensures)
+    (c .before .before .before .before .before .before .before .before .before .before .before .copy2 .ensures)
+    (c .before .before .before .before .before .before .copy3 .ensures)
+    (c .before .before .write-pilot .ensures)
 
 pub write-spec : {M : Type 1} → statement M
 write-spec =

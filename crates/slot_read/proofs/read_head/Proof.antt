@@ -1,0 +1,70 @@
+-- `slot_read::read_head` meets its contract: the chain of checks is the definition's.
+-- Assumes nothing.
+use mathlib.Core.Path.{_∙_}
+use Rattle.run.proofs.Chain.{or-else-is}
+use native.Mathlib.Omega.{arith}
+use Rattle.slot.proofs.Laws.{data-small}
+use Rattle.slot.specs.Outcome.{readHead}
+use borrow.Author.Needs.{needs}
+use Rattle.slot_read.proofs.read_head.Statement.{statement}
+use Rattle.slot_read.proofs.read_head.Tie as tie
+
+format-of-requires : tie.Need-format-of-requires
+format-of-requires c κs = search needs
+
+unless-requires : tie.Need-unless-requires
+unless-requires c κs = search needs
+
+add-unless : tie.Need-add-unless
+add-unless c = rw (c .before .before .before .format-of .ensures) (let h = data-small (c .before .before .before .before .args .format) in omega arith)
+
+unless-requires-2 : tie.Need-unless-requires-2
+unless-requires-2 c κs = search needs
+
+or-else-requires : tie.Need-or-else-requires
+or-else-requires c κs = search needs
+
+unless-requires-3 : tie.Need-unless-requires-3
+unless-requires-3 c κs = search needs
+
+or-else-requires-2 : tie.Need-or-else-requires-2
+or-else-requires-2 c κs = search needs
+
+unless-requires-4 : tie.Need-unless-requires-4
+unless-requires-4 c κs = search needs
+
+or-else-requires-3 : tie.Need-or-else-requires-3
+or-else-requires-3 c κs = search needs
+
+unless-requires-5 : tie.Need-unless-requires-5
+unless-requires-5 c κs = search needs
+
+or-else-requires-4 : tie.Need-or-else-requires-4
+or-else-requires-4 c κs = search needs
+
+returns : tie.Need-returns
+unfolding readHead
+returns c =
+    let e = c .before .before .before .before .before .before .before .before .before .before .before .before .format-of .ensures in
+    or-else-is (c .or-else4 .ensures) (c .before .unless5 .ensures)
+    (or-else-is (c .before .before .or-else3 .ensures) (c .before .before .before .unless4 .ensures)
+    (or-else-is (c .before .before .before .before .or-else2 .ensures) (c .before .before .before .before .before .unless3 .ensures ∙ rw e)
+    (or-else-is (c .before .before .before .before .before .before .before .or-else .ensures) (c .before .before .before .before .before .before .before .before .unless2 .ensures ∙ rw e)
+    (c .before .before .before .before .before .before .before .before .before .before .unless .ensures ∙ rw e))))
+
+pub read-head-spec : {M : Type 1} → statement M
+read-head-spec =
+    tie.close
+    (tie.spec
+    format-of-requires
+    unless-requires
+    add-unless
+    unless-requires-2
+    or-else-requires
+    unless-requires-3
+    or-else-requires-2
+    unless-requires-4
+    or-else-requires-3
+    unless-requires-5
+    or-else-requires-4
+    returns)

@@ -1,0 +1,21 @@
+-- DPCH slots for C: the answer of the call behind each function, packed, and the same lent runs.
+-- Assumes nothing.
+use Prim.Native.Nat.{ℕ}
+use mathlib.Core.Path.{_≡_}
+use mathlib.Core.List.{List}
+use lib.ListN.{length}
+use Rattle.run.specs.Verdicts.{leaves}
+use Rattle.dpch.specs.Formats.{formatOf}
+use Rattle.slot.specs.Rule.{slotOf, tfciIn, dataIn, commandIn}
+use Rattle.slot.specs.Outcome.{mapVerdict, readVerdict}
+use Rattle.packed.specs.Rule.{packed}
+
+pub record SlotMap (format slot tpc : ℕ) (d tfci out : List ℕ) (answer : ℕ) (out-after : List ℕ) : Type 0 where
+  pub answer-is : answer ≡ packed (mapVerdict format slot tpc d tfci (length out)) 0
+  pub out-is : out-after ≡ leaves (mapVerdict format slot tpc d tfci (length out)) (slotOf (formatOf format) slot tpc d tfci) out
+
+-- the value is the TPC command
+pub record SlotRead (format slot : ℕ) (xs d tfci : List ℕ) (answer : ℕ) (d-after tfci-after : List ℕ) : Type 0 where
+  pub answer-is : answer ≡ packed (readVerdict format slot xs (length d) (length tfci)) (leaves (readVerdict format slot xs (length d) (length tfci)) (commandIn (formatOf format) xs) 0)
+  pub data-is : d-after ≡ leaves (readVerdict format slot xs (length d) (length tfci)) (dataIn (formatOf format) xs) d
+  pub tfci-is : tfci-after ≡ leaves (readVerdict format slot xs (length d) (length tfci)) (tfciIn (formatOf format) xs) tfci

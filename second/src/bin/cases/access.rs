@@ -1,0 +1,89 @@
+//! AICH: P9 to P12, indicators, values and the combiner.
+
+use crate::line::Line;
+use crate::runs::{FAR, left};
+use second::rules::combiner::{Complex, combine, gain_pair, symbols};
+use second::rules::{aich, sttd};
+
+fn map(name: &str, indicators: &[i32], n_values: usize) {
+    let outcome = aich::map(indicators, n_values);
+    let line = Line::new(name, "AICH map").numbers(indicators);
+    line.answer(&outcome).numbers(&left(&outcome, n_values, FAR)).print();
+}
+
+fn read(name: &str, values: &[i32]) {
+    let outcome = aich::read(values, 16);
+    let line = Line::new(name, "AICH read").numbers(values);
+    line.answer(&outcome).numbers(&left(&outcome, 16, FAR)).print();
+}
+
+fn mapping() {
+    map("P9", &[1; 16], 32);
+    map("P10", &[1, -1, 0, 0, 0, 0, 0, 0, 0, 0, 0, 0, 0, 0, 0, 0], 32);
+    map("done", &[1, 0, -1, 0, 0, 1, 1, 0, 0, 0, -1, 0, 0, 0, 0, -1], 32);
+    map("refusal 11", &[1, 0, -1, 0, 0, 1, 1, 2, 0, 0, -1, 0, 0, -2, 0, -1], 32);
+    map("refusal 3", &[2, 2], 32);
+    map("refusal 3", &[2; 16], 31);
+}
+
+fn reading() {
+    read("P11", &[2; 32]);
+    let mut ones = [1; 32];
+    ones[31] = -1;
+    read("other", &ones);
+    let mut values = [0, 0, 2, 2].repeat(8);
+    read("done", &values);
+    // unlike neighbours with the same sum: every correlation is that of the values before
+    values[6] = 1;
+    values[7] = 3;
+    read("slip", &values);
+    let mut pair = [0; 32];
+    pair[0] = 1;
+    pair[1] = 1;
+    read("refusal 10", &pair);
+    read("refusal 3", &[2]);
+}
+
+/// The gains are the parts of h1 and h2.
+fn combined(name: &str, gains: [i64; 4], received: &[i32]) {
+    let outcome = combine(gains, received, 16);
+    let line = Line::new(name, "AICH combine").add("gains").numbers(&gains).add("received").numbers(received);
+    line.answer(&outcome).numbers(&left(&outcome, 16, i64::from(FAR))).print();
+}
+
+/// What arrives with no noise when one indicator is sent from both antennas: the values of antenna 1 times h1, and
+/// what STTD makes of them times h2.
+fn clean(gains: [i64; 4], signature: usize, indicator: i32) -> Vec<i32> {
+    let mut indicators = [0; 16];
+    indicators[signature] = indicator;
+    let antenna1 = aich::map(&indicators, 32).expect("these are indicators");
+    let antenna2 = sttd::values(&antenna1, 32).expect("these are values");
+    let [h1, h2] = gain_pair(gains);
+    let sent = |values: &[i32]| symbols(&values.iter().map(|value| i128::from(*value)).collect::<Vec<_>>());
+    let arriving = |(s1, s2): (Complex, Complex)| h1.times(s1).plus(h2.times(s2));
+    let heard = sent(&antenna1).into_iter().zip(sent(&antenna2)).map(arriving);
+    heard.flat_map(|symbol| [symbol.re as i32, symbol.im as i32]).collect()
+}
+
+fn combining() {
+    combined("P12", [3, 4, 0, 0], &clean([3, 4, 0, 0], 5, -1));
+    let mut parts = [0; 32];
+    combined("other", [4097, 0, 0, 0], &parts);
+    combined("other", [4096, 0, 0, 0], &parts);
+    combined("other", [1, 1, 2, -1], &clean([1, 1, 2, -1], 0, 1));
+    parts[30] = 1_048_577;
+    combined("refusal 11", [0, 0, 0, 0], &parts);
+    combined("refusal 11", [0, -4097, 4097, -4097], &parts);
+    combined("refusal 11", [0, 0, 4097, -4097], &parts);
+    combined("refusal 11", [0, 0, 0, -4097], &parts);
+    parts[30] = -1_048_576;
+    combined("refusal 12", [0, 0, 0, 0], &parts);
+    combined("done", [-4096, 4096, -4096, -4096], &parts);
+    combined("refusal 3", [4097, 0, 0, 0], &[0]);
+}
+
+pub fn all() {
+    mapping();
+    reading();
+    combining();
+}
