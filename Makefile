@@ -1,14 +1,14 @@
-# Targets: run (the program on an example job), test (the gate), lib (the proved archive for C), slotline (the program), second, jobs, host, bench.
+# Targets: run (the program on an example job), test (the gate), lib (the proved archive for C), slotline (the program), second, jobs, host, fuzz, install, package, bench.
 CC ?= gcc
 CFLAGS = -std=c11 -O2 -g -Wall -Wextra -Werror
 SANITIZE = -fsanitize=address,undefined -fno-sanitize-recover=all
 LIB = target/staticlib/libslt.a
 SLOTLINE = target/bin/slotline
 
-.PHONY: test lib slotline run fmt audit second jobs cases host bench clean
+.PHONY: test lib slotline run fmt audit second jobs cases host fuzz install package bench clean
 
 # rt ci comes last: it proves every crate from nothing, tries every must-fail edit, and prints the verdict.
-test: fmt audit second jobs cases host
+test: fmt audit second jobs cases host fuzz package
 	rt ci
 
 fmt:
@@ -56,6 +56,37 @@ host: lib
 	$(CC) $(CFLAGS) $(SANITIZE) -Iinclude examples/host.c $(LIB) -o target/host/host
 	target/host/host > target/host/stdout
 	cmp target/host/stdout examples/host.stdout
+
+# Cases drawn at random: the C calls under the sanitizers, in memory where a stray access shows, and the program on files.
+# How many there are is fixed, and SEED decides which: `make fuzz SEED=2` tries others, with CASE=N only that C call.
+SEED = 1
+CASE =
+fuzz: lib slotline
+	mkdir -p target/fuzz
+	cd second && cargo build --quiet --release --offline --bin fuzz --bin jobs
+	$(CC) $(CFLAGS) $(SANITIZE) -Iinclude fuzz/*.c $(LIB) -o target/fuzz/fuzz
+	target/second/release/fuzz $(SEED) $(CASE) | target/fuzz/fuzz
+	test -n "$(CASE)" || target/second/release/jobs --fuzz $(SEED) $(SLOTLINE)
+
+# The archive, its header and its pkg-config file, the program and its man page. PREFIX is where they will be used, and
+# DESTDIR stands before it where they are only put together.
+PREFIX = /usr/local
+VERSION = 1.0
+install: lib slotline
+	install -D -m 644 $(LIB) "$(DESTDIR)$(PREFIX)/lib/libslt.a"
+	install -D -m 644 include/slt.h "$(DESTDIR)$(PREFIX)/include/slt.h"
+	install -D -m 755 $(SLOTLINE) "$(DESTDIR)$(PREFIX)/bin/slotline"
+	install -D -m 644 packaging/slotline.1 "$(DESTDIR)$(PREFIX)/share/man/man1/slotline.1"
+	sed 's|@PREFIX@|$(PREFIX)|; s|@VERSION@|$(VERSION)|' packaging/slt.pc.in > target/slt.pc
+	install -D -m 644 target/slt.pc "$(DESTDIR)$(PREFIX)/lib/pkgconfig/slt.pc"
+
+# An installation as another project meets it: its man page, its program, and a C program that is told by pkg-config alone
+# where the header and the archive are.
+INSTALLED = $(abspath target/install)
+package: lib slotline
+	rm -rf target/install target/outside
+	$(MAKE) --no-print-directory -o lib -o slotline install DESTDIR= PREFIX=$(INSTALLED)
+	sh packaging/try.sh $(INSTALLED) target/outside
 
 # Ratios to plain C and to memcpy, in one run. Not a test: nothing fails by its numbers. The program slotline is timed
 # against a program of its own in plain C.

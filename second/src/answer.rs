@@ -43,6 +43,11 @@ impl Answer {
         }
     }
 
+    /// The 64 bits that `unpack` takes apart.
+    pub fn pack(self) -> u64 {
+        u64::from(self.number) | u64::from(self.place) << 16 | u64::from(self.value) << 48
+    }
+
     /// The answer of a call that hands back runs only: done with value 0, or the refusal.
     pub fn of<T>(outcome: &Result<T, Refusal>) -> Answer {
         match outcome {
@@ -66,5 +71,6 @@ mod tests {
     fn the_three_parts_stand_where_the_header_says() {
         let answer = Answer::unpack(0x0007_1234_5678_000b);
         assert_eq!(answer, Answer { number: 11, place: 0x1234_5678, value: 7 });
+        assert_eq!(answer.pack(), 0x0007_1234_5678_000b);
     }
 }

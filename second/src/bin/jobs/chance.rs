@@ -1,13 +1,17 @@
-//! Files with no plan. The sequences are fixed, so that every run compares the same ones.
+//! Files with no plan. The sequences of the lists are fixed, so that every run compares the same ones; `fuzz.rs` gives its
+//! own.
 
 use crate::good::{AICH, COMMAND_AT, Job, PICH, SLOT_AT, TFCI_AT, file, file_counting, some};
 use second::fields::{NO_COMMANDS, NO_DIGITS, break_tfci, lengths_of, put_somewhere};
 use second::random::Random;
 
-/// Good files of which one to three fields are damaged; each record keeps its length.
 pub fn damaged_fields() -> Vec<Job> {
-    let mut random = Random::new(700);
-    (0..700)
+    some_damaged(Random::new(700), 700)
+}
+
+/// Good files of which one to three fields are damaged; each record keeps its length.
+pub fn some_damaged(mut random: Random, files: usize) -> Vec<Job> {
+    (0..files)
         .map(|round| {
             let mut records = some(&mut random, 5, 14);
             for _ in 0..1 + random.below(3) {
@@ -49,10 +53,13 @@ fn damage_dpch(record: &mut [u8], random: &mut Random) {
     }
 }
 
-/// Bytes of every value, and small ones: of those many are kinds, formats and digits, so that lines are printed first.
 pub fn random_bytes() -> Vec<Job> {
-    let mut random = Random::new(701);
-    (0..500)
+    some_bytes(Random::new(701), 500)
+}
+
+/// Bytes of every value, and small ones: of those many are kinds, formats and digits, so that lines are printed first.
+pub fn some_bytes(mut random: Random, files: usize) -> Vec<Job> {
+    (0..files)
         .map(|round| {
             let limit = random.pick(&[2, 3, 4, 4, 4, 5, 19, 256]);
             let length = random.below(400);
@@ -63,16 +70,24 @@ pub fn random_bytes() -> Vec<Job> {
         .collect()
 }
 
-/// Good files that are changed in one to three places, whatever stands there.
 pub fn mutations() -> Vec<Job> {
-    let mut random = Random::new(702);
-    (0..1200)
+    some_mutations(Random::new(702), 1200)
+}
+
+/// Good files that are changed in one to three places.
+pub fn some_mutations(mut random: Random, files: usize) -> Vec<Job> {
+    (0..files)
         .map(|round| {
-            let mut bytes = file(&some(&mut random, 4, 13));
-            let changes: Vec<String> = (0..1 + random.below(3)).map(|_| mutate(&mut bytes, &mut random)).collect();
-            Job::new(format!("mutation {round}: {}", changes.join(", ")), bytes)
+            let bytes = file(&some(&mut random, 4, 13));
+            mutation(&format!("mutation {round}"), bytes, &mut random)
         })
         .collect()
+}
+
+/// The file changed in one to three places, whatever stands there.
+pub fn mutation(what: &str, mut bytes: Vec<u8>, random: &mut Random) -> Job {
+    let changes: Vec<String> = (0..1 + random.below(3)).map(|_| mutate(&mut bytes, random)).collect();
+    Job::new(format!("{what}: {}", changes.join(", ")), bytes)
 }
 
 /// Changes the bytes at a random place, and says how.

@@ -3,6 +3,7 @@
 //!
 //!     jobs SLOTLINE EXAMPLES          compares; the stored examples are made anew and compared, too
 //!     jobs --write-examples EXAMPLES  stores the examples
+//!     jobs --fuzz SEED SLOTLINE       compares on files of that seed, with no plan
 //!     jobs --print                    prints what the rules print for the file on standard input
 //!
 //! Files come in lists. Each list is one line of `LISTS` below, with a name that says what it covers.
@@ -14,6 +15,7 @@ mod chance;
 mod examples;
 mod faults;
 mod fields;
+mod fuzz;
 mod good;
 mod header;
 mod limits;
@@ -63,14 +65,17 @@ const LISTS: &[List] = &[
 /// Every number that a job can be refused with, and 0 for done.
 const NUMBERS: [u16; 9] = [0, 1, 2, 4, 5, 6, 8, 11, 13];
 
+const USAGE: &str = "usage: jobs SLOTLINE EXAMPLES | --write-examples EXAMPLES | --fuzz SEED SLOTLINE | --print";
+
 fn main() -> ExitCode {
     let arguments: Vec<String> = std::env::args().skip(1).collect();
     let words: Vec<&str> = arguments.iter().map(String::as_str).collect();
     let outcome = match words[..] {
         ["--print"] => print(),
         ["--write-examples", directory] => examples::write(Path::new(directory)),
+        ["--fuzz", seed, slotline] => fuzz(seed, Path::new(slotline)),
         [slotline, directory] => compare(Path::new(slotline), Path::new(directory)),
-        _ => Err("usage: jobs SLOTLINE EXAMPLES | jobs --write-examples EXAMPLES | jobs --print".to_string()),
+        _ => Err(USAGE.to_string()),
     };
     match outcome {
         Ok(()) => ExitCode::SUCCESS,
@@ -91,6 +96,18 @@ fn compare(slotline: &Path, directory: &Path) -> Result<(), String> {
     tally.compare("the stored examples", &examples::jobs())?;
     tally.must_have_seen(&NUMBERS)?;
     println!("jobs: {} files, all equal", tally.files());
+    Ok(())
+}
+
+/// Every list of a seed in turn.
+fn fuzz(seed: &str, slotline: &Path) -> Result<(), String> {
+    let number: u64 = seed.parse().map_err(|error| format!("seed {seed}: {error}"))?;
+    let mut tally = Tally::new(slotline);
+    for (name, jobs) in fuzz::lists(number) {
+        tally.compare(name, &jobs).map_err(|what| format!("{what}\nseed {seed}"))?;
+    }
+    tally.must_have_seen(&NUMBERS)?;
+    println!("jobs: seed {seed}, {} files, all equal", tally.files());
     Ok(())
 }
 

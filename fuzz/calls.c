@@ -1,0 +1,129 @@
+/* calls.c: one line for each call of slt.h, with the numbers and runs of a test in their places. */
+#include <string.h>
+
+#include "fuzz.h"
+#include "slt.h"
+
+static uint8_t *digits(const struct test *t, size_t i) {
+    return t->run[i].lent;
+}
+
+static int32_t *values(const struct test *t, size_t i) {
+    return (int32_t *)(void *)t->run[i].lent;
+}
+
+static size_t n(const struct test *t, size_t i) {
+    return t->run[i].length;
+}
+
+static int64_t whole(const struct test *t, size_t i) {
+    return (int64_t)t->given[i];
+}
+
+/* The bits decide: a NaN must come through as it is. */
+static float level(const struct test *t, size_t i) {
+    uint32_t bits = (uint32_t)t->given[i];
+    float value;
+    memcpy(&value, &bits, sizeof value);
+    return value;
+}
+
+static void keep(struct test *t, slt_sample sample) {
+    t->got = sample.answer;
+    memcpy(&t->got_sample.inphase, &sample.inphase, sizeof sample.inphase);
+    memcpy(&t->got_sample.quadrature, &sample.quadrature, sizeof sample.quadrature);
+}
+
+static void pich_q(struct test *t) {
+    t->got = slt_pich_q(t->given[0], t->given[1], t->given[2]);
+}
+
+static void pich_map(struct test *t) {
+    t->got = slt_pich_map(t->given[0], digits(t, 0), n(t, 0), digits(t, 1), n(t, 1));
+}
+
+static void pich_read(struct test *t) {
+    t->got = slt_pich_read(t->given[0], digits(t, 0), n(t, 0), digits(t, 1), n(t, 1));
+}
+
+static void slot_map(struct test *t) {
+    t->got = slt_slot_map(t->given[0], t->given[1], t->given[2], digits(t, 0), n(t, 0), digits(t, 1), n(t, 1), digits(t, 2),
+                          n(t, 2));
+}
+
+static void slot_read(struct test *t) {
+    t->got = slt_slot_read(t->given[0], t->given[1], digits(t, 0), n(t, 0), digits(t, 1), n(t, 1), digits(t, 2), n(t, 2));
+}
+
+static void frame_map(struct test *t) {
+    t->got = slt_frame_map(t->given[0], digits(t, 0), n(t, 0), digits(t, 1), n(t, 1), digits(t, 2), n(t, 2), digits(t, 3),
+                           n(t, 3));
+}
+
+static void frame_read(struct test *t) {
+    t->got = slt_frame_read(t->given[0], digits(t, 0), n(t, 0), digits(t, 1), n(t, 1), digits(t, 2), n(t, 2), digits(t, 3),
+                            n(t, 3));
+}
+
+static void sttd_digits(struct test *t) {
+    t->got = slt_sttd_digits(digits(t, 0), n(t, 0), digits(t, 1), n(t, 1));
+}
+
+static void sttd_values(struct test *t) {
+    t->got = slt_sttd_values(values(t, 0), n(t, 0), values(t, 1), n(t, 1));
+}
+
+static void pccpch_map(struct test *t) {
+    t->got = slt_pccpch_map(digits(t, 0), n(t, 0), digits(t, 1), n(t, 1), digits(t, 2), n(t, 2));
+}
+
+static void pccpch_read(struct test *t) {
+    t->got = slt_pccpch_read(digits(t, 0), n(t, 0), digits(t, 1), n(t, 1), digits(t, 2), n(t, 2));
+}
+
+static void aich_map(struct test *t) {
+    t->got = slt_aich_map(values(t, 0), n(t, 0), values(t, 1), n(t, 1));
+}
+
+static void aich_read(struct test *t) {
+    t->got = slt_aich_read(values(t, 0), n(t, 0), values(t, 1), n(t, 1));
+}
+
+static void aich_combine(struct test *t) {
+    int64_t *results = (int64_t *)(void *)t->run[1].lent;
+    t->got = slt_aich_combine(whole(t, 0), whole(t, 1), whole(t, 2), whole(t, 3), values(t, 0), n(t, 0), results, n(t, 1));
+}
+
+static void sample_off(struct test *t) {
+    keep(t, slt_sample_off(whole(t, 0), whole(t, 1), t->given[2]));
+}
+
+static void sample_shared(struct test *t) {
+    keep(t, slt_sample_shared(whole(t, 0), whole(t, 1), level(t, 2), t->given[3]));
+}
+
+static void sample_each(struct test *t) {
+    keep(t, slt_sample_each(whole(t, 0), whole(t, 1), level(t, 2), level(t, 3), t->given[4]));
+}
+
+const struct call calls[] = {
+    {"slt_pich_q", 3, "", pich_q},
+    {"slt_pich_map", 1, "11", pich_map},
+    {"slt_pich_read", 1, "11", pich_read},
+    {"slt_slot_map", 3, "111", slot_map},
+    {"slt_slot_read", 2, "111", slot_read},
+    {"slt_frame_map", 1, "1111", frame_map},
+    {"slt_frame_read", 1, "1111", frame_read},
+    {"slt_sttd_digits", 0, "11", sttd_digits},
+    {"slt_sttd_values", 0, "44", sttd_values},
+    {"slt_pccpch_map", 0, "111", pccpch_map},
+    {"slt_pccpch_read", 0, "111", pccpch_read},
+    {"slt_aich_map", 0, "44", aich_map},
+    {"slt_aich_read", 0, "44", aich_read},
+    {"slt_aich_combine", 4, "48", aich_combine},
+    {"slt_sample_off", 3, "", sample_off},
+    {"slt_sample_shared", 4, "", sample_shared},
+    {"slt_sample_each", 5, "", sample_each},
+};
+
+const size_t n_calls = sizeof calls / sizeof calls[0];

@@ -1,0 +1,158 @@
+//! A case of each call but those of DPCH.
+
+use crate::case::{Case, HUGE};
+use crate::draw::{Draw, Room};
+use second::answer::{Answer, Refusal};
+use second::rules::sample::{Setting, VALUE_LIMIT, sample};
+use second::rules::{aich, combiner, pccpch, pich, sttd};
+
+const NPS: [usize; 4] = [18, 36, 72, 144];
+
+// PICH
+
+pub fn pich_q(draw: &mut Draw) -> Case {
+    let good = draw.random.pick(&NPS);
+    let (pi, sfn) = (draw.random.below(good), draw.random.below(4096));
+    let (pi, sfn) = (draw.random.pick(&[pi, pi, good - 1]), draw.random.pick(&[sfn, sfn, 4095]));
+    let (np, pi, sfn) = (draw.number(good), draw.number(pi), draw.number(sfn));
+    let answer = match pich::q(np, pi, sfn) {
+        Ok(q) => Answer::done(q),
+        Err(refusal) => Answer::refused(refusal),
+    };
+    Case::of(&[np, pi, sfn]).answers(answer)
+}
+
+pub fn pich_map(draw: &mut Draw) -> Case {
+    let good = draw.random.pick(&NPS);
+    let np = draw.number(good);
+    let indicators = draw.random.digits(good, 2);
+    let indicators = draw.digits(indicators);
+    let (indicators, frame) = (draw.lend(indicators), draw.room(pich::FRAME));
+    let outcome = pich::map(np, &indicators.run, frame.length);
+    let after = outcome.as_deref().ok();
+    Case::of(&[np]).held(&indicators).room(&frame, after).answers(Answer::of(&outcome))
+}
+
+pub fn pich_read(draw: &mut Draw) -> Case {
+    let good = draw.random.pick(&NPS);
+    let np = draw.number(good);
+    let sent = pich::map(good, &draw.random.digits(good, 2), pich::FRAME).expect("good indicators");
+    let sent = draw.digits(sent);
+    let (frame, indicators) = (draw.lend(sent), draw.room(good));
+    let outcome = pich::read(np, &frame.run, indicators.length);
+    let after = outcome.as_deref().ok();
+    Case::of(&[np]).held(&frame).room(&indicators, after).answers(Answer::of(&outcome))
+}
+
+// STTD
+
+pub fn sttd_digits(draw: &mut Draw) -> Case {
+    if draw.random.below(4000) == 0 {
+        return sttd_too_long(draw);
+    }
+    let length = 4 * draw.random.below(500);
+    let length = draw.random.pick(&[length, length, length, length % 40, 0]);
+    let digits = draw.random.digits(length, 3);
+    let digits = draw.digits(digits);
+    let (input, out) = (draw.lend(digits), draw.room(length));
+    let outcome = sttd::digits(&input.run, out.length);
+    Case::of(&[]).held(&input).room(&out, outcome.as_deref().ok()).answers(Answer::of(&outcome))
+}
+
+/// More digits than the place of an answer can count: `include/slt.h` says that the call refuses such an input for its
+/// length. It does so before it looks at a digit, so no memory need stand behind the input, as behind a huge room.
+fn sttd_too_long(draw: &mut Draw) -> Case {
+    let input = Room { length: HUGE + 4 * draw.random.below(1000), null: false, place: 0 };
+    let out = draw.room(input.length - HUGE);
+    let refused = Refusal { number: 3, place: 0 };
+    Case::of(&[]).room::<u8>(&input, None).room::<u8>(&out, None).answers(Answer::refused(refused))
+}
+
+pub fn sttd_values(draw: &mut Draw) -> Case {
+    let values = (0..sttd::VALUES).map(|_| draw.in_range(16) as i32).collect();
+    let values = draw.values(values);
+    let (input, out) = (draw.lend(values), draw.room(sttd::VALUES));
+    let outcome = sttd::values(&input.run, out.length);
+    Case::of(&[]).held(&input).room(&out, outcome.as_deref().ok()).answers(Answer::of(&outcome))
+}
+
+// P-CCPCH
+
+pub fn pccpch_map(draw: &mut Draw) -> Case {
+    let digits = draw.random.digits(pccpch::DATA, 2);
+    let digits = draw.digits(digits);
+    let data = draw.lend(digits);
+    let (antenna1, antenna2) = (draw.room(pccpch::FRAME), draw.room(pccpch::FRAME));
+    let outcome = pccpch::map(&data.run, antenna1.length, antenna2.length);
+    let (after1, after2) = (outcome.as_ref().ok().map(|both| &both.0[..]), outcome.as_ref().ok().map(|both| &both.1[..]));
+    Case::of(&[]).held(&data).room(&antenna1, after1).room(&antenna2, after2).answers(Answer::of(&outcome))
+}
+
+pub fn pccpch_read(draw: &mut Draw) -> Case {
+    let digits = draw.random.digits(pccpch::DATA, 2);
+    let (sent1, sent2) = pccpch::map(&digits, pccpch::FRAME, pccpch::FRAME).expect("good data");
+    let (sent1, sent2) = (draw.digits(sent1), draw.digits(sent2));
+    let (antenna1, antenna2) = (draw.lend(sent1), draw.lend(sent2));
+    let data = draw.room(pccpch::DATA);
+    let outcome = pccpch::read(&antenna1.run, &antenna2.run, data.length);
+    let after = outcome.as_deref().ok();
+    Case::of(&[]).held(&antenna1).held(&antenna2).room(&data, after).answers(Answer::of(&outcome))
+}
+
+// AICH
+
+pub fn aich_map(draw: &mut Draw) -> Case {
+    let indicators = (0..aich::SIGNATURES).map(|_| draw.in_range(1) as i32).collect();
+    let indicators = draw.values(indicators);
+    let (indicators, values) = (draw.lend(indicators), draw.room(aich::VALUES));
+    let outcome = aich::map(&indicators.run, values.length);
+    Case::of(&[]).held(&indicators).room(&values, outcome.as_deref().ok()).answers(Answer::of(&outcome))
+}
+
+pub fn aich_read(draw: &mut Draw) -> Case {
+    let indicators: Vec<i32> = (0..aich::SIGNATURES).map(|_| draw.in_range(1) as i32).collect();
+    let sent = aich::map(&indicators, aich::VALUES).expect("good indicators");
+    let sent = draw.values(sent);
+    let (values, indicators) = (draw.lend(sent), draw.room(aich::SIGNATURES));
+    let outcome = aich::read(&values.run, indicators.length);
+    Case::of(&[]).held(&values).room(&indicators, outcome.as_deref().ok()).answers(Answer::of(&outcome))
+}
+
+pub fn aich_combine(draw: &mut Draw) -> Case {
+    let silent = draw.random.below(12) == 0;
+    let gains = [0; 4].map(|_| if silent { 0 } else { draw.whole(combiner::GAIN_LIMIT) });
+    let parts = (0..aich::VALUES).map(|_| draw.in_range(combiner::RECEIVED_LIMIT.into()) as i32).collect();
+    let parts = draw.values(parts);
+    let (received, results) = (draw.lend(parts), draw.room(aich::SIGNATURES));
+    let outcome = combiner::combine(gains, &received.run, results.length);
+    Case::of_whole(&gains).held(&received).room(&results, outcome.as_deref().ok()).answers(Answer::of(&outcome))
+}
+
+// Samples
+
+/// Two values and an antenna number.
+fn values_and_antenna(draw: &mut Draw) -> ([i64; 2], usize) {
+    let values = [draw.whole(VALUE_LIMIT), draw.whole(VALUE_LIMIT)];
+    let good = draw.random.below(2);
+    (values, draw.number(good))
+}
+
+pub fn sample_off(draw: &mut Draw) -> Case {
+    let (values, antenna) = values_and_antenna(draw);
+    let outcome = sample(values, Setting::Off, antenna);
+    Case::of_whole(&values).numbers([antenna as u64].into_iter()).samples(outcome)
+}
+
+pub fn sample_shared(draw: &mut Draw) -> Case {
+    let (values, antenna) = values_and_antenna(draw);
+    let level = draw.level();
+    let outcome = sample(values, Setting::Shared(level), antenna);
+    Case::of_whole(&values).levels(&[level]).numbers([antenna as u64].into_iter()).samples(outcome)
+}
+
+pub fn sample_each(draw: &mut Draw) -> Case {
+    let (values, antenna) = values_and_antenna(draw);
+    let (first, second) = (draw.level(), draw.level());
+    let outcome = sample(values, Setting::Each(first, second), antenna);
+    Case::of_whole(&values).levels(&[first, second]).numbers([antenna as u64].into_iter()).samples(outcome)
+}
