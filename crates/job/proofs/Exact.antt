@@ -1,8 +1,8 @@
 -- The theorems of specs/Exact.antt.
 -- Assumes nothing.
 use mathlib.Core.Path.{_≡_, refl, sym, ap, ap₂, _∙_}
-use mathlib.Core.Bool.{Bool, true, false, cond}
-use mathlib.Core.List.{List, [], _∷_, _++_, append-nil}
+use mathlib.Core.Bool.{Bool, true, false}
+use mathlib.Core.List.{List, [], _∷_, _++_}
 use Prim.Native.Nat.{ℕ, zero, suc, _+_, _*_, _-_, _/_, _%_, _≤_, _<_}
 use native.Mathlib.Nat.{not-suc-le-zero}
 use native.Mathlib.Omega.{arith}
@@ -22,11 +22,10 @@ use Rattle.slot.specs.Rule.{fieldsOf, slotOf, tfciStands}
 use Rattle.slot.specs.Outcome.{mapHead, fieldsVerdict, mapVerdict}
 use Rattle.job.specs.declared.Opened.{Opened}
 use Rattle.job.specs.declared.Ran.{Ran}
-use Rattle.job.specs.declared.Told.{Told}
 use Rattle.job.specs.Rule.{countIn, firstRecord, isKind, byKind, sizeOf, sizeAt, recordAt, headLine, dpchLine, recordLine, refusalLine}
 use Rattle.job.specs.Faults.{verdictOf, check}
 use Rattle.job.specs.Text.{nought, decimalBy, decimal, glyph, glyphs, put}
-use Rattle.job.specs.Outcome.{lineSize, room, present, byteIs, secondVerdict, kindHead, recordHead, mapperVerdict, headVerdict, recordVerdict, endVerdict, openVerdict, runVerdict, Prints, Open, Run, Tell}
+use Rattle.job.specs.Outcome.{lineSize, room, present, byteIs, secondVerdict, kindHead, recordHead, mapperVerdict, headVerdict, recordVerdict, endVerdict, openVerdict, runVerdict, Prints, Open, Run}
 use Rattle.job.specs.Printed.{records, printed}
 use Rattle.job.specs.Exact.{Tells, Steps, Job, JobPrints, readFrom, Numeral, DecimalReads, OpenOnce, RunOnce, EndOnce, TellOnce, Worked}
 use Rattle.job.specs.Exact.Steps.{ends, left-over, runs, refuses}

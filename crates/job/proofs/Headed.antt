@@ -10,15 +10,14 @@ use borrow.Author.Tests.{leb-true}
 use lib.Dec.{eqb}
 use lib.ListN.{length, getD, take, drop}
 use Rattle.run.specs.declared.Verdict.{Verdict}
-use Rattle.run.specs.Verdicts.{orElse, leaves}
+use Rattle.run.specs.Verdicts.{orElse}
 use Rattle.run.proofs.Chain.{or-else-done, leaves-done, leaves-refused}
 use Rattle.run.proofs.Lent.{part-width, part-length, part-at}
 use Rattle.dpch.specs.Formats.{formatOf}
 use Rattle.slot.specs.Rule.{dataSize}
-use Rattle.job.specs.declared.Ran.{Ran}
 use Rattle.job.specs.declared.Told.{Told}
-use Rattle.job.specs.Rule.{isKind, byKind, sizeOf, sizeAt, recordAt, recordLine}
-use Rattle.job.specs.Outcome.{room, secondVerdict, kindHead, recordHead, mapperVerdict, recordVerdict, runVerdict, Prints, Writes, Run}
+use Rattle.job.specs.Rule.{isKind, byKind, sizeOf, sizeAt, recordAt}
+use Rattle.job.specs.Outcome.{room, secondVerdict, kindHead, recordHead, mapperVerdict, recordVerdict, runVerdict, Writes, Run}
 use Rattle.job.specs.Ready.{Whole}
 use Rattle.job.proofs.Checks.{check-done, present-done, then-refused, then-next}
 use Rattle.job.proofs.Records.{prints-refused}

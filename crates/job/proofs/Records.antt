@@ -9,30 +9,27 @@ use native.Mathlib.Omega.{arith}
 use borrow.Rule.Slice.PartMut.{putMid, midOf, mid-len}
 use borrow.Author.Tests.{leb-true, eqb-true, eqb-false}
 use lib.Dec.{eqb, lit<}
-use lib.IntN.{ℤ, pos, negsuc}
+use lib.IntN.{ℤ, pos}
 use lib.ListN.{length, getD, take, drop, length-append, length-drop}
 use lib.Seq.{take-all, take-at}
 use Rattle.run.specs.declared.Verdict.{Verdict}
-use Rattle.run.specs.First.{Every}
-use Rattle.run.specs.Ranges.{inRange}
-use Rattle.run.specs.Verdicts.{leaves}
 use Rattle.run.proofs.Chain.{unless-done, leaves-done, leaves-refused}
 use Rattle.run.proofs.Lent.{part-width}
 use Rattle.run.proofs.Table.{tab-length, tab-at}
 use Rattle.dpch.specs.declared.Format.{Format}
 use Rattle.dpch.specs.Formats.{formatOf}
-use Rattle.slot.specs.Rule.{dataSize, slotOf}
-use Rattle.slot.specs.Outcome.{mapVerdict as slotVerdict, Map as SlotMap}
+use Rattle.slot.specs.Rule.{dataSize}
+use Rattle.slot.specs.Outcome.{Map as SlotMap}
 use Rattle.slot.proofs.Accept.{mapped}
 use Rattle.pich.specs.Rule.{frameOf}
-use Rattle.pich.specs.Outcome.{mapVerdict as pichVerdict, Map as PichMap}
+use Rattle.pich.specs.Outcome.{Map as PichMap}
 use Rattle.pich.proofs.Laws.{frame-length}
 use Rattle.aich.specs.Rule.{valuesOf}
-use Rattle.aich.specs.Outcome.{mapVerdict as aichVerdict, Map as AichMap}
+use Rattle.aich.specs.Outcome.{Map as AichMap}
 use Rattle.aich.specs.Exact.{Sized}
 use Rattle.aich.proofs.Checks.{taken}
 use Rattle.aich.proofs.Exact.{units-sized}
-use Rattle.job.specs.Rule.{byKind, sizeOf, indicatorOf, indicatorsOf, secondOf, pagingOf, slotNumberOf, tpcOf, tfciOf, dataOf, aichLine, pichLine, dpchLine, recordLine}
+use Rattle.job.specs.Rule.{byKind, sizeOf, indicatorOf, indicatorsOf, secondOf, pagingOf, slotNumberOf, tpcOf, aichLine, pichLine, dpchLine, recordLine}
 use Rattle.job.specs.Outcome.{secondVerdict, mapperVerdict, Prints, Writes}
 use Rattle.job.specs.Ready.{Whole, AichRecord, PichRecord, DpchRecord, MapsSlot}
 use Rattle.job.specs.Text.{put, Wrote}

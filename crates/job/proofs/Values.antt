@@ -4,7 +4,6 @@ use mathlib.Core.Path.{_≡_, refl, sym, ap, _∙_}
 use mathlib.Core.Bool.{Bool, true, false, cond}
 use mathlib.Core.List.{List, [], _∷_, _++_, append-nil, append-assoc}
 use Prim.Native.Nat.{ℕ, zero, suc, _+_, _*_, _≤_, _<_}
-use native.Mathlib.Nat.{not-suc-le-zero}
 use native.Mathlib.Numerals.{add-one}
 use native.Mathlib.Omega.{arith}
 use borrow.Author.Tests.{ltb-true}
@@ -14,12 +13,12 @@ use lib.ListN.{length, getD, take, length-append}
 use lib.Seq.{take-suc, take-length, append-snoc}
 use lib.Signed.{ltZ, nonNeg}
 use mir.Syntax.{w32}
-use mir.Val.{SFits, Fits, toZ, ofZ}
+use mir.Val.{SFits, toZ, ofZ}
 use Rattle.run.specs.First.{Every}
 use Rattle.run.specs.Ranges.{between, inRange}
 use Rattle.run.proofs.Ranges.{range-parts}
 use Rattle.whole.specs.Bound.{Bounded}
-use Rattle.whole.proofs.Bound.{b-range, fits-by}
+use Rattle.whole.proofs.Bound.{b-range}
 use Rattle.whole.proofs.Bits.{r-in, minus-fits, minus-reads}
 use Rattle.job.specs.Text.{space, minus, decimal, signed, spaced, Wrote}
 use Rattle.job.proofs.Put.{wrote-then, wrote-length}

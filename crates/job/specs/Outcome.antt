@@ -1,8 +1,7 @@
 -- Document 01, 'Job file and program': what each call answers and leaves in the lent line, for all inputs. A lent line has room for the longest line there is.
 -- Assumes nothing.
-use Prim.Native.Nat.{ℕ, _+_, _≤_}
+use Prim.Native.Nat.{ℕ, _+_}
 use mathlib.Core.Path.{_≡_}
-use mathlib.Core.Bool.{true}
 use mathlib.Core.List.{List}
 use lib.Dec.{eqb, leb, ltb}
 use lib.ListN.{length, getD}
@@ -20,7 +19,7 @@ use Rattle.job.specs.declared.Told.{Told}
 use Rattle.job.specs.declared.fault.Fault.{Fault}
 use Rattle.job.specs.declared.fault.Fault.the-variants.{OverLong, WrongMark, UnknownVersion, UnknownKind, EndsEarly, BytesAfter}
 use Rattle.job.specs.Faults.{limit, check}
-use Rattle.job.specs.Rule.{versionHigh, versionLow, countIn, firstRecord, isKind, byKind, sizeOf, sizeAt, recordAt, indicatorsOf, secondOf, pagingOf, slotNumberOf, tpcOf, tfciOf, dataOf, headLine, recordLine, refusalLine}
+use Rattle.job.specs.Rule.{versionHigh, versionLow, countIn, firstRecord, isKind, byKind, sizeAt, recordAt, indicatorsOf, secondOf, pagingOf, slotNumberOf, tpcOf, tfciOf, dataOf, headLine, recordLine, refusalLine}
 use Rattle.job.specs.Text.{put}
 
 -- the longest line: 'DPCH 16 14 ', 1280 digits and the end of the line

@@ -4,10 +4,8 @@ use run::or_else;
 use run::refusal;
 use run::unless;
 ghost use mathlib.Core.Path.{_≡_};
-ghost use Prim.Native.Nat.{_≤_, _<_};
-ghost use lib.ListN.{length, getD};
-ghost use Rattle.job.specs.Rule.{headLine, refusalLine};
-ghost use Rattle.job.specs.Text.{Wrote};
+ghost use Prim.Native.Nat.{_<_};
+ghost use lib.ListN.{length};
 ghost use Rattle.job.specs.Outcome.{openVerdict, Open, Run, endVerdict, Tell};
 
 mod fault;

@@ -3,15 +3,14 @@ use crate::Told;
 use crate::text;
 use run::Verdict;
 ghost use mathlib.Core.Path.{_≡_};
-ghost use mathlib.Core.Bool.{true};
 ghost use Prim.Native.Nat.{_+_, _≤_, _<_};
 ghost use lib.IntN.{pos, negsuc};
-ghost use lib.ListN.{length, getD};
+ghost use lib.ListN.{length};
 ghost use Rattle.run.specs.First.{Every};
 ghost use Rattle.run.specs.Ranges.{inRange};
-ghost use Rattle.job.specs.Rule.{indicatorOf, indicatorsOf, headLine, aichLine, pichLine, dpchLine, recordLine, refusalLine};
+ghost use Rattle.job.specs.Rule.{indicatorOf, indicatorsOf, headLine, aichLine, pichLine, dpchLine, refusalLine};
 ghost use Rattle.job.specs.Text.{Wrote};
-ghost use Rattle.job.specs.Outcome.{mapperVerdict, Writes};
+ghost use Rattle.job.specs.Outcome.{Writes};
 ghost use Rattle.job.specs.Ready.{Whole, Roomy, AichRecord, PichRecord, DpchRecord, MapsSlot};
 
 // The header's.

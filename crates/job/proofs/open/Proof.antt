@@ -1,7 +1,6 @@
 -- `job::open` meets its contract.
 -- Assumes nothing.
-use mathlib.Core.Path.{refl, sym, _∙_}
-use native.Mathlib.Omega.{arith}
+use mathlib.Core.Path.{sym, _∙_}
 use Rattle.run.proofs.Chain.{leaves-done, leaves-refused}
 use Rattle.job.proofs.Records.{prints-refused, prints-done}
 use Rattle.job.proofs.Checks.{room-first}

@@ -2,10 +2,7 @@
 -- Assumes nothing.
 use Rattle.job.proofs.Headed.{headed, part-is, part-whole, run-head-refused, run-refused, run-done}
 use Rattle.run.proofs.Chain.{or-else-done}
-use mathlib.Core.Path.{refl, sym, _∙_}
 use native.Mathlib.Omega.{arith}
-use Rattle.run.proofs.Chain.{leaves-done, leaves-refused}
-use Rattle.job.proofs.Records.{prints-refused, prints-done}
 use Rattle.job.proofs.Checks.{room-first}
 use borrow.Author.Needs.{needs}
 use Rattle.job.proofs.run.Statement.{statement}

@@ -1,7 +1,5 @@
 -- `job::tell` meets its contract.
 -- Assumes nothing.
-use mathlib.Core.Path.{sym, _∙_}
-use native.Mathlib.Omega.{arith}
 use Rattle.job.proofs.Records.{prints-refused, prints-done}
 use Rattle.job.proofs.Checks.{room-done}
 use borrow.Author.Needs.{needs}

@@ -1,6 +1,6 @@
 -- `cases::line::size_of` is safe: a number of at most twelve digits has an opposite, and what is printed of either is not below 0.
 -- Assumes nothing.
-use mathlib.Core.Path.{_≡_, refl, sym, _∙_}
+use mathlib.Core.Path.{_≡_, sym, _∙_}
 use mathlib.Core.Bool.{true, false}
 use Prim.Native.Nat.{ℕ}
 use native.Mathlib.Omega.{arith}

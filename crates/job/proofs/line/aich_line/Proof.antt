@@ -1,7 +1,6 @@
 -- `job::line::aich_line` meets its contract: 32 values have at most 128 bytes.
 -- Assumes nothing.
 use native.Mathlib.Omega.{arith}
-use lib.Dec.{lit<}
 use Rattle.job.proofs.Put.{sofar-first, sofar-then}
 use Rattle.job.proofs.Values.{spaced-all}
 use Rattle.job.specs.Rule.{aichLine}

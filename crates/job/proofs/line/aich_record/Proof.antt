@@ -1,7 +1,5 @@
 -- `job::line::aich_record` meets its contract.
 -- Assumes nothing.
-use mathlib.Core.Path.{sym, _∙_}
-use native.Mathlib.Omega.{arith}
 use lib.IntN.{ℤ, pos}
 use lib.ListN.{length-replicate}
 use Rattle.job.proofs.Records.{writes-refused, writes-done, aich-is, aich-sized, aich-text}

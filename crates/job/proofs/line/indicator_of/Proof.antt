@@ -1,6 +1,5 @@
 -- `job::line::indicator_of` meets its contract.
 -- Assumes nothing.
-use mathlib.Core.Path.{sym, _∙_}
 use native.Mathlib.Omega.{arith}
 use borrow.Author.Tests.{eq-eqb, ne-eqb}
 use Rattle.job.specs.Rule.{indicatorOf}

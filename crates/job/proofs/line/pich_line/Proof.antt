@@ -1,7 +1,6 @@
 -- `job::line::pich_line` meets its contract.
 -- Assumes nothing.
 use native.Mathlib.Omega.{arith}
-use lib.Dec.{lit<}
 use Rattle.job.proofs.Put.{sofar-first, sofar-then}
 use denote.Ref.{now}
 use Rattle.job.proofs.Words.{number-length, row-length}

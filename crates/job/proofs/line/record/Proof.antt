@@ -1,6 +1,5 @@
 -- `job::line::record` meets its contract: a whole record is one of its kind.
 -- Assumes nothing.
-use native.Mathlib.Omega.{arith}
 use Rattle.job.proofs.Records.{whole-some, whole-aich, whole-pich, whole-dpch}
 use borrow.Author.Needs.{needs}
 use Rattle.job.proofs.line.record.Statement.{statement}

@@ -1,7 +1,6 @@
 -- `job::line::refusal` meets its contract: a machine number has at most twenty digits.
 -- Assumes nothing.
 use native.Mathlib.Omega.{arith}
-use lib.Dec.{lit<}
 use Rattle.job.proofs.Put.{sofar-first, sofar-then}
 use Rattle.job.proofs.Words.{number-length}
 use Rattle.job.specs.Rule.{refusalLine}

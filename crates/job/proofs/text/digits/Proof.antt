@@ -1,6 +1,6 @@
 -- `job::text::digits` meets its contract.
 -- Assumes nothing.
-use mathlib.Core.Path.{refl, sym, ap}
+use mathlib.Core.Path.{sym, ap}
 use Prim.Native.Nat.{_+_}
 use Rattle.job.proofs.Words.{glyphs-length}
 use Rattle.job.proofs.Put.{wrote-lent}

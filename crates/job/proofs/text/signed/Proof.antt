@@ -1,8 +1,6 @@
 -- `job::text::signed` meets its contract: its sign where it has one, and its size.
 -- Assumes nothing.
-use mathlib.Core.Path.{ap, _∙_}
 use native.Mathlib.Omega.{arith}
-use lib.IntN.{natAbs}
 use Rattle.job.proofs.Put.{wrote-length}
 use Rattle.job.proofs.Values.{size-digits, signed-minus, signed-plus}
 use borrow.Author.Needs.{needs}

@@ -1,9 +1,8 @@
 -- `job::text::spell` meets its contract: the laws of writing from the front.
 -- Assumes nothing.
 use mathlib.Core.Path.{sym, _∙_}
-use Prim.Native.Nat.{_-_, _≤_}
+use Prim.Native.Nat.{_-_}
 use native.Mathlib.Omega.{arith}
-use denote.Ref.{now}
 use lib.ListN.{length}
 use Rattle.run.proofs.Front.{Front, front-none, front-length, front-store, front-all}
 use Rattle.job.specs.Text.{glyphs}
