@@ -1,5 +1,5 @@
-# Targets: run (the program on an example job), test (the gate), lib (the proved archive for C), slotline (the program), second, jobs, host, fuzz, install, package, bench.
-CC ?= gcc
+# Targets: run (the program on an example job), test (the gate), lib (the proved archive for C), slotline (the program), install, bench; and the steps of test:
+# fmt, audit, second, jobs, cases, host, fuzz, package.
 CFLAGS = -std=c11 -O2 -g -Wall -Wextra -Werror
 SANITIZE = -fsanitize=address,undefined -fno-sanitize-recover=all
 LIB = target/staticlib/libslt.a

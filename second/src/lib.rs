@@ -1,5 +1,5 @@
-//! What both programs of this package stand on: the rules, written a second time from the rules document alone
-//! (`rules/`), and the inputs that both try. Nothing here knows the library or the program that is judged.
+//! What the programs of this package stand on: the rules, written a second time from the rules document alone
+//! (`rules/`), and the inputs that several try. Nothing here knows the library or the program that is judged.
 
 #![deny(warnings)]
 #![deny(unsafe_code)]

@@ -4,8 +4,9 @@
 //! library is made on many inputs and compared with it (`compare/`): the number, the place, the value, and every
 //! element of every lent run afterwards. The first difference is printed and ends the run with status 1.
 //!
-//! One channel is one file in `rules/` and one in `compare/`; it is run by one line of `CHANNELS` below. The program
-//! that reads job files is compared by a program of its own, `bin/jobs/`.
+//! One channel is one file in `rules/` and one in `compare/`; it is run by one line of `CHANNELS` below. Programs
+//! of their own compare the program that reads job files (`bin/jobs/`), print the cases that the rules document names
+//! (`bin/cases/`), and draw calls at random for a C driver (`bin/fuzz/`).
 
 #![deny(warnings)]
 #![deny(unsafe_code)]
