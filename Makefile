@@ -1,30 +1,38 @@
-# Targets: run (the program on an example job), test (the gate), lib (the proved archive for C), slotline (the program), install, bench; and the steps of test:
-# fmt, audit, second, jobs, cases, host, fuzz, package.
+# Targets: run (the program on an example job), test (the gate), lib (the proved archive for C), slotline (the program), install, bench; and the steps of
+# test: fmt, audit, second, jobs, cases, host, fuzz, package.
 CFLAGS = -std=c11 -O2 -g -Wall -Wextra -Werror
 SANITIZE = -fsanitize=address,undefined -fno-sanitize-recover=all
 LIB = target/staticlib/libslt.a
 SLOTLINE = target/bin/slotline
+SECOND = target/second/release
 
-.PHONY: test lib slotline run fmt audit second jobs cases host fuzz install package bench clean
+.PHONY: test steps lib slotline run fmt audit judges second jobs cases host fuzz install package bench clean
 
-# rt ci comes last: it proves every crate from nothing, tries every must-fail edit, and prints the verdict.
-test: fmt audit second jobs cases host fuzz package
+# The steps two at a time, the output of each in one piece. rt ci comes last: it proves every crate from nothing, tries every must-fail edit, and prints
+# the verdict.
+test:
+	$(MAKE) --no-print-directory -j2 --output-sync=target steps
 	rt ci
+
+steps: fmt audit second jobs cases host fuzz package
 
 fmt:
 	rt fmt --check
 
-# Proves what the archive is made of, and compiles it: an object for each channel's C calls, in one archive.
+# Proves the C calls and what they stand on, and compiles them: an object for each channel's, in one archive. One rt at a time works in target/; by itself
+# it proves two crates at a time.
+ONE_RT = mkdir -p target && flock target/one-rt
 C_CALLS = slt_slot slt_frame slt_pich slt_pccpch slt_sttd slt_aich slt_combiner slt_sample
+BELOW_C = packed slot_read frame_read pich_read pccpch_read sttd aich combiner sample
 lib:
-	rt check $(C_CALLS)
-	for name in $(C_CALLS); do rt staticlib $$name || exit 1; done
+	$(ONE_RT) rt check $(BELOW_C)
+	for name in $(C_CALLS); do $(ONE_RT) rt staticlib $$name || exit 1; done
 	rm -f $(LIB)
 	cd $(dir $(LIB)) && for name in $(C_CALLS); do ar x lib$$name.a || exit 1; done && ar crs $(notdir $(LIB)) $(addsuffix .o,$(C_CALLS))
 
 # Proves the program that reads a job file and what it stands on, and compiles it.
 slotline:
-	rt check slotline
+	$(ONE_RT) rt check slotline
 
 # The program on an example job. On a file of one's own: target/bin/slotline < FILE
 run: slotline
@@ -34,21 +42,25 @@ run: slotline
 audit:
 	python3 audit/promises.py
 
-# The independent second program: its own tests, then the comparison with the archive.
-second: lib
+# The programs of the independent second program.
+judges: lib
+	cd second && cargo build --quiet --release --offline --bins
+
+# Its own tests, then the comparison with the archive.
+second: judges
 	cd second && cargo test --quiet --release --offline
-	cd second && cargo run --quiet --release --offline
+	$(SECOND)/second
 
 # The program on many job files and on the examples, against the text of the second program's rules; then the generator
 # that docs/JOBFILE.md shows, whose job the rules print as well.
-jobs: slotline
-	cd second && cargo run --quiet --release --offline --bin jobs -- $(abspath $(SLOTLINE)) ../examples
+jobs: judges slotline
+	$(SECOND)/jobs $(abspath $(SLOTLINE)) examples
 	sh examples/try_generator.sh $(abspath $(SLOTLINE)) target/generator
-	cd second && cargo run --quiet --release --offline --bin jobs -- --print < ../target/generator/job.slt | cmp - ../target/generator/expected
+	$(SECOND)/jobs --print < target/generator/job.slt | cmp - target/generator/expected
 
 # What the program cases must print, printed anew by the second program; rt ci runs cases itself and compares it with the same text.
-cases:
-	cd second && cargo run --quiet --release --offline --bin cases | cmp - ../crates/cases/stdout
+cases: judges
+	$(SECOND)/cases | cmp - crates/cases/stdout
 
 # A C host under the sanitizers; what it prints is compared with what it should.
 host: lib
@@ -61,12 +73,11 @@ host: lib
 # How many there are is fixed, and SEED decides which: `make fuzz SEED=2` tries others, with CASE=N only that C call.
 SEED = 1
 CASE =
-fuzz: lib slotline
+fuzz: judges slotline
 	mkdir -p target/fuzz
-	cd second && cargo build --quiet --release --offline --bin fuzz --bin jobs
 	$(CC) $(CFLAGS) $(SANITIZE) -Iinclude fuzz/*.c $(LIB) -o target/fuzz/fuzz
-	target/second/release/fuzz $(SEED) $(CASE) | target/fuzz/fuzz
-	test -n "$(CASE)" || target/second/release/jobs --fuzz $(SEED) $(SLOTLINE)
+	$(SECOND)/fuzz $(SEED) $(CASE) | target/fuzz/fuzz
+	test -n "$(CASE)" || $(SECOND)/jobs --fuzz $(SEED) $(SLOTLINE)
 
 # The archive, its header and its pkg-config file, the program and its man page. PREFIX is where they will be used, and
 # DESTDIR stands before it where they are only put together.

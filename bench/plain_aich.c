@@ -6,36 +6,25 @@
 
 enum { SIGNATURES = 16, VALUES = 32, GAIN_LIMIT = 4096, RECEIVED_LIMIT = 1048576 };
 
-/* One round: the sums of neighbours, and behind them their differences. */
-static void fold(const int32_t *x, int32_t *y) {
-    for (size_t i = 0; i < SIGNATURES / 2; i++) {
-        y[i] = x[2 * i] + x[2 * i + 1];
-        y[i + SIGNATURES / 2] = x[2 * i] - x[2 * i + 1];
+/* Four rounds over numbers of one type: in each the sums of neighbours, and behind them their differences. */
+#define ROUNDS(number, fold, transform)                       \
+    static void fold(const number *x, number *y) {            \
+        for (size_t i = 0; i < SIGNATURES / 2; i++) {         \
+            y[i] = x[2 * i] + x[2 * i + 1];                   \
+            y[i + SIGNATURES / 2] = x[2 * i] - x[2 * i + 1];  \
+        }                                                     \
+    }                                                         \
+                                                              \
+    static void transform(number *x) {                        \
+        number y[SIGNATURES];                                 \
+        fold(x, y);                                           \
+        fold(y, x);                                           \
+        fold(x, y);                                           \
+        fold(y, x);                                           \
     }
-}
 
-static void transform(int32_t *x) {
-    int32_t y[SIGNATURES];
-    fold(x, y);
-    fold(y, x);
-    fold(x, y);
-    fold(y, x);
-}
-
-static void fold_wide(const int64_t *x, int64_t *y) {
-    for (size_t i = 0; i < SIGNATURES / 2; i++) {
-        y[i] = x[2 * i] + x[2 * i + 1];
-        y[i + SIGNATURES / 2] = x[2 * i] - x[2 * i + 1];
-    }
-}
-
-static void transform_wide(int64_t *x) {
-    int64_t y[SIGNATURES];
-    fold_wide(x, y);
-    fold_wide(y, x);
-    fold_wide(x, y);
-    fold_wide(y, x);
-}
+ROUNDS(int32_t, fold, transform)
+ROUNDS(int64_t, fold_wide, transform_wide)
 
 uint64_t plain_aich_map(const int32_t *indicators, size_t n_indicators, int32_t *values, size_t n_values) {
     int32_t sums[SIGNATURES];

@@ -5,27 +5,21 @@ use mathlib.Core.List.{List}
 use Prim.Native.Nat.{ℕ, _<_}
 use native.Mathlib.Omega.{arith}
 use borrow.Author.Tests.{eqb-true, eq-eqb}
-use lib.Count.{ones}
 use lib.Dec.{lit<}
 use lib.ListN.{length}
 use lib.Seq.{ext-getD}
 use lib.IntN.{ℤ, pos, negsuc}
 use Rattle.run.specs.declared.Verdict.{Verdict}
-use Rattle.run.specs.Fields.{joined}
-use Rattle.run.specs.First.{firstBad}
-use Rattle.run.specs.Ranges.{between}
-use Rattle.run.specs.Table.{tab}
-use Rattle.run.specs.Verdicts.{done, orElse, unless, each, Narrow}
+use Rattle.run.specs.Verdicts.{done, Narrow}
 use Rattle.run.proofs.Chain.{or-else-pass, unless-pass, each-pass, check-narrow, unless-narrow, each-narrow, or-else-narrow, one-outcome}
 use Rattle.run.proofs.Ranges.{range-holds}
 use Rattle.run.proofs.Table.{tab-is}
 use Rattle.whole.specs.Bound.{Bounded}
-use Rattle.whole.specs.Sum.{sum}
 use Rattle.whole.proofs.Bound.{range-low, range-high}
-use Rattle.aich.specs.Rule.{isPlus, sign, valueAt, valuesOf, correlation, unit, indicatorsIn}
-use Rattle.aich.specs.Outcome.{mapVerdict, given, readHead, readVerdict}
+use Rattle.aich.specs.Rule.{valueAt, valuesOf, indicatorsIn}
+use Rattle.aich.specs.Outcome.{mapVerdict, readHead, readVerdict}
 use Rattle.aich.specs.Method.{Sixteen}
-use Rattle.aich.specs.Exact.{Rows, Gives, ReadExact, Sized, GivenSized, MapOnce, ReadOnce, Packs, Marked}
+use Rattle.aich.specs.Exact.{Rows, Gives, ReadExact, Sized, GivenSized, MapOnce, ReadOnce, Packs}
 use Rattle.aich.proofs.Signs.{sign-second, dot}
 use Rattle.aich.proofs.Laws.{entry, values-length, value-at, value-small, indicators-length, indicator-small, given-back}
 use Rattle.aich.proofs.Reading.{given-every, every-given}
@@ -126,13 +120,3 @@ read-narrow values indicatorsLength =
 
 pub packs : Packs
 packs = record { map-narrow = map-narrow; read-narrow = read-narrow }
-
-pub marked : Marked
-unfolding mapVerdict valuesOf valueAt sign isPlus sum ones tab joined firstBad between orElse unless each readVerdict readHead given indicatorsIn correlation unit
-marked =
-    record {
-      p9 = record { taken = refl; written = refl };
-      p10 = record { taken = refl; written = refl };
-      p11 = refl;
-      unlike = refl;
-    }

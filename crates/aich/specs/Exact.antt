@@ -4,17 +4,15 @@
 use Prim.Native.Nat.{ℕ, _+_, _*_, _<_}
 use mathlib.Core.Path.{_≡_}
 use mathlib.Core.Bool.{cond}
-use mathlib.Core.List.{List, [], _∷_, _++_}
+use mathlib.Core.List.{List}
 use mathlib.Core.Logic.{_↔_}
 use lib.Dec.{eqb}
-use lib.ListN.{length, replicate}
+use lib.ListN.{length}
 use lib.IntN.{ℤ, pos, negsuc, _*ℤ_}
 use Rattle.run.specs.declared.Verdict.{Verdict}
-use Rattle.run.specs.Fields.{joined}
 use Rattle.run.specs.First.{Every}
 use Rattle.run.specs.Ranges.{inRange}
-use Rattle.run.specs.Refusals.{valuesRefused}
-use Rattle.run.specs.Verdicts.{done, refused, Narrow}
+use Rattle.run.specs.Verdicts.{done, Narrow}
 use Rattle.whole.specs.Sum.{sum}
 use Rattle.aich.specs.Rule.{sign, valuesOf, indicatorsIn}
 use Rattle.aich.specs.Outcome.{mapVerdict, Map, readVerdict, Read}
@@ -59,10 +57,3 @@ ReadOnce =
 pub record Packs : Type 0 where
   pub map-narrow : (indicators : List ℤ) (valuesLength : ℕ) → Narrow (mapVerdict indicators valuesLength)
   pub read-narrow : (values : List ℤ) (indicatorsLength : ℕ) → Narrow (readVerdict values indicatorsLength)
-
--- P9, P10 and P11 of document 01, and its other example: 'thirty-one 1s and a -1 give 10'
-pub record Marked : Type 0 where
-  pub p9 : Gives (replicate 16 (pos 1)) (pos 16 ∷ pos 16 ∷ replicate 30 (pos 0))
-  pub p10 : Gives (pos 1 ∷ negsuc 0 ∷ replicate 14 (pos 0)) (joined (replicate 8 (pos 0 ∷ pos 0 ∷ pos 2 ∷ pos 2 ∷ [])))
-  pub p11 : readVerdict (replicate 32 (pos 2)) 16 ≡ refused valuesRefused 0
-  pub unlike : readVerdict (replicate 31 (pos 1) ++ (negsuc 0 ∷ [])) 16 ≡ refused valuesRefused 0

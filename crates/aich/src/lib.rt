@@ -1,7 +1,6 @@
 // The acquisition indicator channel: document 01, 'AICH'; TS 25.211, 5.3.3.7.
 use run::Verdict;
 use run::or_else;
-use run::range;
 use run::refusal;
 use run::unless;
 ghost use mathlib.Core.Path.{_≡_};

@@ -100,7 +100,7 @@ fn map(name: usize, data: &[u8], antenna1: &mut [u8], antenna2: &mut [u8]) {
 
 fn read(name: usize, antenna1: &[u8], antenna2: &[u8]) {
     let mut data = [MARK; 270];
-    let verdict = pccpch::read(antenna1, antenna2, &mut data);
+    let verdict = pccpch_read::read(antenna1, antenna2, &mut data);
     line::begin(name, b"P-CCPCH read");
     line::digits(antenna1);
     line::digits(antenna2);

@@ -23,7 +23,7 @@ fn read(
     tfci: &mut [u8],
     commands: &mut [u8],
 ) {
-    let verdict = frame::read(format, run, data, tfci, commands);
+    let verdict = frame_read::read(format, run, data, tfci, commands);
     line::begin(name, b"frame read");
     line::named(b"format", format);
     line::run(b"digits", run);

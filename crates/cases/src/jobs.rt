@@ -3,8 +3,8 @@ use crate::line;
 use run::Verdict;
 
 fn tell(refused: Verdict) {
-    let mut text = [0u8; job::LINE];
-    let told = job::tell(refused, &mut text);
+    let mut text = [0u8; lines::LINE];
+    let told = lines::tell(refused, &mut text);
     let n = told.length;
     line::word(&text[..n]);
 }
@@ -17,7 +17,7 @@ fn end(file: &[u8], at: usize) {
 }
 
 fn record(file: &[u8], at: usize) {
-    let mut text = [0u8; job::LINE];
+    let mut text = [0u8; lines::LINE];
     let ran = job::run(file, at, &mut text);
     let verdict = ran.verdict;
     if verdict.number != 0 {
@@ -33,7 +33,7 @@ fn printed(name: usize, file: &[u8]) {
     line::begin(name, b"job");
     line::numbers(file);
     line::end();
-    let mut text = [0u8; job::LINE];
+    let mut text = [0u8; lines::LINE];
     let opened = job::open(file, &mut text);
     let verdict = opened.verdict;
     if verdict.number != 0 {

@@ -1,6 +1,5 @@
 // A line: `NAME: CALL INPUTS -> ANSWER`. Every input and output is printed with a space before it.
 use run::Verdict;
-use run::range;
 
 const STDOUT: i32 = 1;
 

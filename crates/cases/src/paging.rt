@@ -27,7 +27,7 @@ fn map(name: usize, np: usize, indicators: &[u8], frame: &mut [u8]) {
 }
 
 fn read(name: usize, np: usize, frame: &[u8], indicators: &mut [u8]) {
-    let verdict = pich::read(np, frame, indicators);
+    let verdict = pich_read::read(np, frame, indicators);
     line::begin(name, b"PICH read");
     line::named(b"Np", np);
     line::run(b"digits", frame);

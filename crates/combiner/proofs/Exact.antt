@@ -5,32 +5,27 @@ use mathlib.Core.List.{List}
 use Prim.Native.Nat.{ℕ, _+_, _*_, _<_}
 use native.Mathlib.Omega.{arith}
 use borrow.Author.Tests.{eq-eqb}
-use lib.Count.{ones}
 use lib.Dec.{lit<}
 use lib.ListN.{getD}
 use lib.IntN.{ℤ, pos, negℤ, _*ℤ_}
 use Rattle.run.specs.declared.Verdict.{Verdict}
-use Rattle.run.specs.First.{firstBad}
 use Rattle.run.specs.Ranges.{between}
 use Rattle.run.specs.Table.{tab}
-use Rattle.run.specs.Verdicts.{orElse, unless, each}
 use Rattle.run.proofs.Chain.{or-else-pass, unless-pass, each-pass, check-narrow, unless-narrow, each-narrow, or-else-narrow, one-outcome}
 use Rattle.run.proofs.Table.{tab-length, tab-at, tab-is}
 use Rattle.whole.specs.Sum.{sum}
 use Rattle.whole.proofs.Bound.{range-low, range-high}
 use Rattle.whole.proofs.Laws.{*ℤ-neg}
 use Rattle.whole.proofs.Sum.{sum-same, sum-neg}
-use Rattle.aich.specs.Rule.{isPlus, sign, valueAt, valuesOf, correlation}
+use Rattle.aich.specs.Rule.{sign, valueAt, valuesOf}
 use Rattle.aich.proofs.Checks.{taken}
 use Rattle.aich.proofs.Laws.{entry, values-length, value-at, value-small}
 use Rattle.sttd.specs.Rule.{sttd}
 use Rattle.sttd.specs.Outcome.{valuesVerdict}
 use Rattle.sttd.specs.Exact.{Block}
 use Rattle.sttd.proofs.Laws.{sttd-length, block}
-use Rattle.combiner.specs.Rule.{partOf, combinedAt, combined, numberOf, numbersOf}
-use Rattle.combiner.specs.Outcome.{someGain, combineHead, combineBody, combineVerdict}
-use Rattle.combiner.specs.Demand3.{clean}
-use Rattle.combiner.specs.Exact.{EncoderTakes, SumOfEncoded, CombineOnce, Packs, Marked}
+use Rattle.combiner.specs.Outcome.{combineHead, combineBody, combineVerdict}
+use Rattle.combiner.specs.Exact.{EncoderTakes, SumOfEncoded, CombineOnce, Packs}
 use Rattle.combiner.proofs.Fours.{by-fours}
 
 pub encoder-takes : EncoderTakes
@@ -108,7 +103,3 @@ packs h1 h2 received resultsLength =
     (λ _. check-narrow _ 11 2 _ (lit< tt) (lit< tt) (lit< tt)
     (λ _. check-narrow _ 11 3 _ (lit< tt) (lit< tt) (lit< tt)
     (λ _. or-else-narrow _ _ (each-narrow 4 11 _ 32 (lit< tt) (lit< tt)) (λ _. unless-narrow _ 12 0 (lit< tt) (lit< tt)))))))
-
-pub marked : Marked
-unfolding combineVerdict combineHead combineBody clean valuesOf valueAt sign isPlus sum ones tab sttd firstBad between orElse unless each someGain numbersOf numberOf combined combinedAt partOf correlation
-marked = record { p12-taken = refl; p12 = refl; gain-4097 = refl; gain-4096 = refl; gains-224 = refl }

@@ -1,7 +1,6 @@
 // The AICH combiner for two antennas: document 01, 'Combiner'.
 use run::Verdict;
 use run::or_else;
-use run::range;
 use run::refusal;
 use run::unless;
 ghost use mathlib.Core.Path.{_≡_};

@@ -1,22 +1,20 @@
 -- The theorems of specs/Exact.antt.
 -- Assumes nothing.
-use mathlib.Core.Path.{_≡_, refl, sym, ap, _∙_}
+use mathlib.Core.Path.{_≡_, refl}
 use mathlib.Core.Bool.{Bool, true, false, _||_}
-use mathlib.Core.List.{List, [], _∷_, map}
-use Prim.Native.Nat.{ℕ, _+_, _≤_, _<_}
+use Prim.Native.Nat.{ℕ, _≤_}
 use native.Mathlib.Omega.{arith}
 use borrow.Author.Tests.{eqb-true, leb-true, ltb-true}
 use lib.Dec.{leb, ltb, eqb}
 use lib.ListN.{length, take}
 use Rattle.run.specs.First.{firstBad, Every}
 use Rattle.run.specs.Fields.{total, joined}
-use Rattle.run.specs.Table.{tab}
 use Rattle.run.proofs.First.{every-by}
-use Rattle.run.proofs.Table.{table-rule, table-test, all-of}
+use Rattle.run.proofs.Table.{table-test, all-of}
 use Rattle.dpch.specs.declared.Format.{Format}
 use Rattle.dpch.specs.Formats.{row, formats, formatOf, widths}
 use Rattle.dpch.specs.Pilots.{symbols1, symbols3, symbols5, symbols7, symbolsOf, symbolsFor, pilotRow, pilotSource, pilotOf}
-use Rattle.dpch.specs.Exact.{FieldsFill, Sizes, FormatSizes, Pilot, FormatPilots}
+use Rattle.dpch.specs.Exact.{FieldsFill, FormatSizes, FormatPilots}
 
 -- a test of a format that holds for each row, and for the row of zeros, holds for every number
 every-format : (ok : Format → Bool) → ok (row 0 0 0 0 0 0) ≡ true → all-of ok formats ≡ true → (n : ℕ) → ok (formatOf n) ≡ true

@@ -1,8 +1,7 @@
 -- What the tables obey. Each statement is proved in proofs/Exact.antt under its name in small letters.
 -- Assumes nothing.
-use Prim.Native.Nat.{ℕ, _+_, _<_, _≤_}
+use Prim.Native.Nat.{ℕ, _<_, _≤_}
 use mathlib.Core.Path.{_≡_}
-use mathlib.Core.List.{List}
 use lib.ListN.{length, getD, take}
 use Rattle.run.specs.Fields.{total}
 use Rattle.dpch.specs.Formats.{formatOf, widths}

@@ -1,7 +1,7 @@
 -- Document 01, 'DPCH slot'; TS 25.211, 5.3.2, table 12: the pilot bits.
 -- Assumes nothing.
 use Prim.Native.Nat.{ℕ, _/_, _%_}
-use mathlib.Core.Bool.{Bool, cond}
+use mathlib.Core.Bool.{cond}
 use mathlib.Core.List.{List, [], _∷_, map}
 use lib.ListN.{getD, take, drop}
 use lib.Dec.{eqb}

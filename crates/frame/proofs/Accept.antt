@@ -7,7 +7,7 @@ use native.Mathlib.Omega.{arith}
 use borrow.Author.Tests.{eqb-true, leb-true}
 use lib.ListN.{length, getD}
 use Rattle.run.specs.Parts.{part}
-use Rattle.run.proofs.Chain.{or-else-done, unless-done, chain-done}
+use Rattle.run.proofs.Chain.{five-done, or-else-done, unless-done, chain-done}
 use Rattle.run.proofs.Parts.{part-length}
 use Rattle.dpch.specs.Formats.{formatOf}
 use Rattle.slot.specs.Rule.{dataSize}
@@ -20,36 +20,30 @@ pub map-headed : (format dataLength tfciLength outLength commandsLength : ℕ) �
     → Room format dataLength tfciLength commandsLength outLength
 unfolding mapHead
 map-headed format dataLength tfciLength outLength commandsLength h =
-    let c1 = or-else-done _ _ h in
-    let c2 = or-else-done _ _ (c1 .rest) in
-    let c3 = or-else-done _ _ (c2 .rest) in
-    let c4 = or-else-done _ _ (c3 .rest) in
+    let c = five-done _ _ _ _ _ h in
     record {
-      format-ok = leb-true _ _ (unless-done _ 1 0 (omega arith) (c1 .first));
+      format-ok = leb-true _ _ (unless-done _ 1 0 (omega arith) (c .first));
       fields = record {
-        data-ok = eqb-true _ _ (unless-done _ 3 0 (omega arith) (c2 .first));
-        tfci-ok = eqb-true _ _ (unless-done _ 3 1 (omega arith) (c3 .first));
-        commands-ok = eqb-true _ _ (unless-done _ 3 3 (omega arith) (c4 .rest));
+        data-ok = eqb-true _ _ (unless-done _ 3 0 (omega arith) (c .second));
+        tfci-ok = eqb-true _ _ (unless-done _ 3 1 (omega arith) (c .third));
+        commands-ok = eqb-true _ _ (unless-done _ 3 3 (omega arith) (c .fifth));
       };
-      frame-ok = eqb-true _ _ (unless-done _ 3 2 (omega arith) (c4 .first));
+      frame-ok = eqb-true _ _ (unless-done _ 3 2 (omega arith) (c .fourth));
     }
 
 pub read-headed : (format frameLength dataLength tfciLength commandsLength : ℕ) → readHead format frameLength dataLength tfciLength commandsLength .number ≡ 0
     → Room format dataLength tfciLength commandsLength frameLength
 unfolding readHead
 read-headed format frameLength dataLength tfciLength commandsLength h =
-    let c1 = or-else-done _ _ h in
-    let c2 = or-else-done _ _ (c1 .rest) in
-    let c3 = or-else-done _ _ (c2 .rest) in
-    let c4 = or-else-done _ _ (c3 .rest) in
+    let c = five-done _ _ _ _ _ h in
     record {
-      format-ok = leb-true _ _ (unless-done _ 1 0 (omega arith) (c1 .first));
+      format-ok = leb-true _ _ (unless-done _ 1 0 (omega arith) (c .first));
       fields = record {
-        data-ok = eqb-true _ _ (unless-done _ 3 1 (omega arith) (c3 .first));
-        tfci-ok = eqb-true _ _ (unless-done _ 3 2 (omega arith) (c4 .first));
-        commands-ok = eqb-true _ _ (unless-done _ 3 3 (omega arith) (c4 .rest));
+        data-ok = eqb-true _ _ (unless-done _ 3 1 (omega arith) (c .third));
+        tfci-ok = eqb-true _ _ (unless-done _ 3 2 (omega arith) (c .fourth));
+        commands-ok = eqb-true _ _ (unless-done _ 3 3 (omega arith) (c .fifth));
       };
-      frame-ok = eqb-true _ _ (unless-done _ 3 0 (omega arith) (c2 .first));
+      frame-ok = eqb-true _ _ (unless-done _ 3 0 (omega arith) (c .second));
     }
 
 -- fields that map takes

@@ -3,7 +3,7 @@
 use mathlib.Core.Path.{_≡_, refl, sym, ap, _∙_, subst}
 use mathlib.Core.Bool.{Bool}
 use mathlib.Core.List.{List}
-use Prim.Native.Nat.{ℕ, _+_, _*_, _≤_, _<_}
+use Prim.Native.Nat.{ℕ, _*_, _<_}
 use native.Mathlib.Omega.{arith}
 use borrow.Author.Tests.{le-leb, eq-eqb}
 use lib.Dec.{lit<}
@@ -11,21 +11,20 @@ use lib.ListN.{length, getD}
 use Rattle.run.specs.declared.Verdict.{Verdict}
 use Rattle.run.specs.Fields.{joined}
 use Rattle.run.specs.Parts.{part}
-use Rattle.run.specs.Table.{tab}
 use Rattle.run.specs.Verdicts.{done, orElse, unless, Narrow}
 use Rattle.run.proofs.Chain.{or-else-pass, unless-pass, chain-pass, or-else-narrow, unless-narrow, check-narrow, chain-narrow, one-outcome}
 use Rattle.run.proofs.Parts.{part-room, part-length, joined-part}
 use Rattle.run.proofs.Table.{tab-same, tab-is}
 use Rattle.dpch.specs.Formats.{formatOf}
 use Rattle.slot.specs.Rule as slot
-use Rattle.slot.specs.Rule.{dataSize, slotOf, commandIn}
+use Rattle.slot.specs.Rule.{dataSize, commandIn}
 use Rattle.slot.specs.Outcome as slot-outcome
 use Rattle.slot.proofs.Laws.{sound-format, data-small}
 use Rattle.slot.proofs.Accept as slot-accept
 use Rattle.slot.proofs.Exact as slot-exact
 use Rattle.frame.specs.Rule.{slotAt, frameOf, dataIn, tfciIn, commandsIn}
-use Rattle.frame.specs.Outcome.{mapHead, slotFields, mapVerdict, Map, readHead, slotDigits, readVerdict, Read}
-use Rattle.frame.specs.Ready.{Ready, Room}
+use Rattle.frame.specs.Outcome.{mapHead, slotFields, mapVerdict, readHead, slotDigits, readVerdict}
+use Rattle.frame.specs.Ready.{Ready}
 use Rattle.frame.specs.Exact.{Gives, Fields, Exact, ReadExact, FrameSlots, MapOnce, ReadOnce, Packs}
 use Rattle.frame.proofs.Laws.{map-head-pass, frame-length, frame-slot, data-of, tfci-of, data-in-length, tfci-in-length, commands-in-length, command-of, tfci-small}
 use Rattle.frame.proofs.Accept.{Mapped, mapped, Accepted, accepted, map-headed, read-headed}

@@ -1,7 +1,7 @@
 -- The slots of a frame: checked, written and taken one after the other.
 -- Assumes nothing.
 use mathlib.Core.Path.{_≡_, refl, sym, ap, _∙_, subst}
-use mathlib.Core.List.{List, _++_}
+use mathlib.Core.List.{List}
 use Prim.Native.Nat.{ℕ, _+_, _-_, _*_, _≤_, _<_}
 use native.Mathlib.Omega.{arith}
 use borrow.Author.Tests.{le-leb, eq-eqb}
@@ -9,26 +9,23 @@ use borrow.Rule.Slice.PartMut.{putMid, midOf}
 use lib.ListN.{length, getD, take, drop}
 use lib.Dec.{lit<}
 use Rattle.run.specs.declared.Verdict.{Verdict}
-use Rattle.run.specs.Fields.{joined}
 use Rattle.run.specs.Parts.{part}
-use Rattle.run.specs.Table.{tab}
 use Rattle.run.specs.Verdicts.{done, leaves}
 use Rattle.run.proofs.Chain.{or-else-pass, unless-pass, leaves-done}
-use Rattle.run.proofs.Front.{Front, front-none, front-part, front-lent}
+use Rattle.run.proofs.Front.{Front, front-part, front-lent}
 use Rattle.run.proofs.Parts.{part-room, part-next, part-length, part-lent, joined-tab-length, part-joined}
 use Rattle.run.proofs.Table.{tab-length, tab-at}
-use Rattle.dpch.specs.declared.Format.{Format}
-use Rattle.dpch.specs.Formats.{formatOf, widths}
+use Rattle.dpch.specs.Formats.{formatOf}
 use Rattle.slot.specs.Rule as slot
 use Rattle.slot.specs.Rule.{dataSize, slotOf, commandIn}
 use Rattle.slot.specs.Outcome as slot-outcome
-use Rattle.slot.specs.Outcome.{fieldsVerdict, digitsVerdict, partVerdict, Put, Take}
+use Rattle.slot.specs.Outcome.{fieldsVerdict, partVerdict}
 use Rattle.slot.specs.Ready.{Whole}
 use Rattle.slot.proofs.Laws as slot-laws
 use Rattle.slot.proofs.Laws.{sum, sound-format, slot-length, data-length, field-long, part-whole}
 use Rattle.frame.specs.Rule.{slotAt, frameOf, dataIn, tfciIn, commandsIn}
 use Rattle.frame.specs.Outcome.{slotFields, slotDigits}
-use Rattle.frame.specs.Ready.{Ready, Room}
+use Rattle.frame.specs.Ready.{Room}
 
 number-0 : {v : Verdict} → v ≡ done → v .number ≡ 0
 number-0 e = ap (λ (v : Verdict). v .number) e

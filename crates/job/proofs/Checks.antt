@@ -1,20 +1,21 @@
--- Checks of a file's own bytes: what is known where one passes.
+-- Checks of a file's own bytes and of a line's room: what is known where one passes.
 -- Assumes nothing.
-use mathlib.Core.Path.{_≡_, refl, sym, _∙_}
+use mathlib.Core.Path.{_≡_, refl, sym, ap, _∙_}
 use mathlib.Core.Bool.{Bool, true, false}
 use mathlib.Core.List.{List}
 use Prim.Native.Nat.{ℕ, _≤_, _<_}
 use native.Mathlib.Omega.{arith}
-use borrow.Author.Tests.{ltb-true, leb-true}
-use lib.Dec.{eqb, lit<}
+use borrow.Author.Tests.{ltb-true, le-leb}
 use lib.ListN.{length}
 use Rattle.run.specs.declared.Verdict.{Verdict}
 use Rattle.run.specs.Verdicts.{orElse}
-use Rattle.run.proofs.Chain.{or-else-done, or-else-refused, or-else-next, unless-done}
+use Rattle.run.proofs.Chain.{or-else-done, unless-pass, leaves-done}
+use Rattle.lines.specs.Outcome.{lineSize, room, Prints}
+use Rattle.lines.proofs.Checks.{room-done}
 use Rattle.job.specs.declared.fault.Fault.{Fault}
 use Rattle.job.specs.declared.fault.Fault.the-variants.{OverLong, WrongMark, UnknownVersion, UnknownKind, EndsEarly, BytesAfter}
 use Rattle.job.specs.Faults.{verdictOf, check}
-use Rattle.job.specs.Outcome.{lineSize, room, present}
+use Rattle.job.specs.Outcome.{present, openVerdict}
 
 -- a fault is a refusal
 fault-refuses : (fault : Fault) → verdictOf fault .number ≡ 0 → ⊥
@@ -35,32 +36,19 @@ pub present-done : (file : List ℕ) (offset : ℕ) → present file offset .num
 unfolding present
 present-done file offset e = ltb-true _ _ (check-done _ _ e)
 
--- chains in either grouping
-pub or-else-assoc : (u v w : Verdict) → orElse (orElse u v) w ≡ orElse u (orElse v w)
-unfolding orElse
-or-else-assoc u v w = pick (eqb (u .number) 0) refl
-  where
-    pick : (b : Bool) → eqb (u .number) 0 ≡ b → orElse (orElse u v) w ≡ orElse u (orElse v w)
-    pick true e = rw e
-    pick false e = rw (e, e)
-
--- a third check is looked at where the first two pass
-pub then-refused : {a b t : Verdict} (u v w : Verdict) → t ≡ orElse a b → a ≡ u → b ≡ v → (t .number ≡ 0 → ⊥) → t ≡ orElse u (orElse v w)
-then-refused {a} {b} {t} u v w e p q h =
-    let is : t ≡ orElse u v = e ∙ rw (p, q) in
-    is ∙ sym (or-else-refused (orElse u v) w (rw is at h)) ∙ or-else-assoc u v w
-
-pub then-next : {a b t : Verdict} (u v w : Verdict) → t ≡ orElse a b → a ≡ u → b ≡ v → t .number ≡ 0 → w ≡ orElse u (orElse v w)
-then-next {a} {b} {t} u v w e p q h =
-    let is : t ≡ orElse u v = e ∙ rw (p, q) in
-    sym (or-else-next (orElse u v) w (rw is at h)) ∙ or-else-assoc u v w
-
+-- the second of two checks passed
 pub then-passed : {b t : Verdict} (u v : Verdict) → t ≡ orElse u b → b ≡ v → t .number ≡ 0 → v .number ≡ 0
 then-passed {b} {t} u v e q h = rw q at (or-else-done u b (rw e at h) .rest)
 
--- a line with room
-pub room-done : (place lineLength : ℕ) → room place lineLength .number ≡ 0 → lineSize ≤ lineLength
-room-done place lineLength e = leb-true _ _ (unless-done _ 3 place (lit< tt) e)
+-- a line with room for one call has room for another
+pub room-passes : (place lineLength : ℕ) → lineSize ≤ lineLength → room place lineLength .number ≡ 0
+room-passes place lineLength h = ap (λ (v : Verdict). v .number) (unless-pass 3 place (le-leb lineSize lineLength h))
 
-pub room-first : (place lineLength : ℕ) (w : Verdict) → orElse (room place lineLength) w .number ≡ 0 → lineSize ≤ lineLength
-room-first place lineLength w e = room-done place lineLength (or-else-done _ _ e .first)
+pub open-room : (file : List ℕ) (lineLength : ℕ) → openVerdict file lineLength .number ≡ 0 → room 0 lineLength .number ≡ 0
+unfolding openVerdict
+open-room file lineLength h = room-passes 0 lineLength (room-done 1 lineLength (or-else-done _ _ h .first))
+
+-- what one call prints is what another does where both are done
+pub prints-as : {v : Verdict} {text line line′ : List ℕ} {n : ℕ} (w : Verdict) → v .number ≡ 0 → w .number ≡ 0 → Prints v text line n line′ → Prints w text line n line′
+prints-as {v} w h k p =
+    record { length-is = p .length-is ∙ leaves-done v _ _ h ∙ sym (leaves-done w _ _ k); line-is = p .line-is ∙ leaves-done v _ _ h ∙ sym (leaves-done w _ _ k) }

@@ -2,35 +2,37 @@
 -- Assumes nothing.
 use mathlib.Core.Path.{_≡_, refl, sym, ap, ap₂, _∙_}
 use mathlib.Core.Bool.{Bool, true, false}
-use mathlib.Core.List.{List, [], _∷_, _++_}
-use Prim.Native.Nat.{ℕ, zero, suc, _+_, _*_, _-_, _/_, _%_, _≤_, _<_}
-use native.Mathlib.Nat.{not-suc-le-zero}
+use mathlib.Core.List.{List, [], _++_}
+use Prim.Native.Nat.{ℕ, zero, suc, _+_, _≤_}
 use native.Mathlib.Omega.{arith}
-use borrow.Author.Tests.{le-leb, eqb-true, eqb-false, ltb-true, ltb-false}
-use lib.Dec.{eqb, ltb}
-use lib.ListN.{length, getD, take, drop, replicate, length-append, length-replicate, List·getD-append}
-use lib.Seq.{take-at, getD-append-seam}
+use borrow.Author.Tests.{eqb-true, eqb-false}
+use lib.Dec.{eqb}
+use lib.ListN.{length, take, drop, replicate, length-replicate}
+use lib.Seq.{take-at}
 use Rattle.run.specs.declared.Verdict.{Verdict}
 use Rattle.run.specs.First.{firstBad}
 use Rattle.run.specs.Fields.{joined}
 use Rattle.run.specs.Table.{tab}
 use Rattle.run.specs.Verdicts.{orElse, unless, each, leaves}
-use Rattle.run.proofs.Chain.{one-outcome, or-else-next, unless-pass, leaves-done, leaves-refused}
+use Rattle.run.proofs.Chain.{one-outcome, or-else-next, leaves-done, leaves-refused}
 use Rattle.dpch.specs.Formats.{formats, formatOf}
 use Rattle.dpch.specs.Pilots.{symbols1, symbols3, symbols5, symbols7, symbolsOf, symbolsFor, pilotOf}
 use Rattle.slot.specs.Rule.{fieldsOf, slotOf, tfciStands}
 use Rattle.slot.specs.Outcome.{mapHead, fieldsVerdict, mapVerdict}
+use Rattle.lines.specs.Rule.{isKind, byKind, sizeOf, headLine, dpchLine, recordLine, refusalLine}
+use Rattle.lines.specs.Text.{decimalBy, decimal, glyph, glyphs, put}
+use Rattle.lines.specs.Outcome.{lineSize, room, secondVerdict, mapperVerdict, Prints}
+use Rattle.lines.proofs.Exact.{prints-once}
 use Rattle.job.specs.declared.Opened.{Opened}
 use Rattle.job.specs.declared.Ran.{Ran}
-use Rattle.job.specs.Rule.{countIn, firstRecord, isKind, byKind, sizeOf, sizeAt, recordAt, headLine, dpchLine, recordLine, refusalLine}
+use Rattle.job.specs.Rule.{countIn, firstRecord, sizeAt, recordAt}
 use Rattle.job.specs.Faults.{verdictOf, check}
-use Rattle.job.specs.Text.{nought, decimalBy, decimal, glyph, glyphs, put}
-use Rattle.job.specs.Outcome.{lineSize, room, present, byteIs, secondVerdict, kindHead, recordHead, mapperVerdict, headVerdict, recordVerdict, endVerdict, openVerdict, runVerdict, Prints, Open, Run}
+use Rattle.job.specs.Outcome.{present, byteIs, kindHead, recordHead, headVerdict, recordVerdict, endVerdict, openVerdict, runVerdict, Open, Run}
 use Rattle.job.specs.Printed.{records, printed}
-use Rattle.job.specs.Exact.{Tells, Steps, Job, JobPrints, readFrom, Numeral, DecimalReads, OpenOnce, RunOnce, EndOnce, TellOnce, Worked}
+use Rattle.job.specs.Exact.{Tells, Steps, Job, JobPrints, OpenOnce, RunOnce, EndOnce, Worked}
 use Rattle.job.specs.Exact.Steps.{ends, left-over, runs, refuses}
 use Rattle.job.specs.Exact.Job.{opens, closed}
-use Rattle.job.proofs.Words.{decimal-one, decimal-more, decimal-longer}
+use Rattle.job.proofs.Checks.{room-passes}
 
 -- ---- what a call prints, as a caller takes it off the line
 printed-off : {v : Verdict} {text line line′ : List ℕ} {n : ℕ} → Prints v text line n line′ → v .number ≡ 0 → take n line′ ≡ text
@@ -38,9 +40,6 @@ unfolding put
 printed-off {v} {text} {line} {line′} {n} p h =
     ap₂ (λ (k : ℕ) (l : List ℕ). take k l) (p .length-is ∙ leaves-done v _ _ h) (p .line-is ∙ leaves-done v _ _ h)
     ∙ take-at text (drop (0 + length text) line) (length text) refl
-
-room-passes : (place lineLength : ℕ) → lineSize ≤ lineLength → room place lineLength .number ≡ 0
-room-passes place lineLength h = ap (λ (v : Verdict). v .number) (unless-pass 3 place (le-leb lineSize lineLength h))
 
 open-verdict : (file line : List ℕ) → lineSize ≤ length line → openVerdict file (length line) ≡ headVerdict file
 unfolding openVerdict
@@ -184,9 +183,6 @@ pub job-prints : JobPrints
 job-prints file text = (job-prints-only file, λ e. rw e (job-any file))
 
 -- ---- each promise allows one outcome
-prints-once : {v : Verdict} {text line x y : List ℕ} {m n : ℕ} → Prints v text line m x → Prints v text line n y → (m ≡ n) × (x ≡ y)
-prints-once p q = (one-outcome (p .length-is) (q .length-is), one-outcome (p .line-is) (q .line-is))
-
 pub open-once : OpenOnce
 open-once file line a b x y p q =
     let s = prints-once (p .prints) (q .prints) in (
@@ -204,81 +200,9 @@ run-once file offset line a b x y p q =
     let s = prints-once (p .prints) (q .prints) in
     (λ i. record { verdict = one-outcome (p .verdict-is) (q .verdict-is) i; next = one-outcome (p .next-is) (q .next-is) i; length = s .0 i }, s .1)
 
-pub tell-once : TellOnce
-tell-once refusal line a b x y p q =
-    let s = prints-once (p .prints) (q .prints) in
-    (λ i. record { verdict = one-outcome (p .verdict-is) (q .verdict-is) i; length = s .0 i }, s .1)
-
 pub end-once : EndOnce
 end-once file offset a b p q = one-outcome p q
 
 pub worked : Worked
 unfolding printed leaves headVerdict orElse unless each firstBad check verdictOf byteIs present headLine decimal decimalBy records recordVerdict recordHead kindHead isKind secondVerdict byKind sizeOf recordAt mapperVerdict recordLine dpchLine endVerdict glyphs glyph tab formats formatOf mapVerdict mapHead fieldsVerdict tfciStands slotOf fieldsOf joined pilotOf symbolsFor symbolsOf symbols1 symbols3 symbols5 symbols7
 worked = record { example = refl }
-
--- ---- a number's text
-read-append : (s : List ℕ) (before d : ℕ) → readFrom before (s ++ (d ∷ [])) ≡ readFrom before s * 10 + (d - 48)
-unfolding readFrom
-read-append [] before d = refl
-read-append (x ∷ s) before d = read-append s (before * 10 + (x - 48)) d
-
-digits-append : (s : List ℕ) (d : ℕ) → ((k : ℕ) → k < length s → (48 ≤ getD s k 0) × (getD s k 0 ≤ 57)) → (48 ≤ d) × (d ≤ 57)
-    → (k : ℕ) → k < length (s ++ (d ∷ [])) → (48 ≤ getD (s ++ (d ∷ [])) k 0) × (getD (s ++ (d ∷ [])) k 0 ≤ 57)
-digits-append s d all last k h = pick (ltb k (length s)) refl
-  where
-    l : length (s ++ (d ∷ [])) ≡ length s + 1
-    l = length-append s (d ∷ [])
-
-    pick : (b : Bool) → ltb k (length s) ≡ b → (48 ≤ getD (s ++ (d ∷ [])) k 0) × (getD (s ++ (d ∷ [])) k 0 ≤ 57)
-    pick true e = let m : k < length s = ltb-true _ _ e in rw (List·getD-append s (d ∷ []) 0 k m) (all k m)
-    pick false e =
-        let m : length s ≤ k = ltb-false _ _ e in
-        let sum = l in
-        let is : k ≡ length s = omega arith in
-        rw (is, getD-append-seam s d [] 0) last
-
-some-digit : (n : ℕ) → 0 < length (decimal n)
-some-digit n = pick (ltb n 10) refl
-  where
-    pick : (b : Bool) → ltb n 10 ≡ b → 0 < length (decimal n)
-    pick true e = rw (decimal-one n (ltb-true _ _ e)) (omega arith)
-    pick false e = let l = decimal-longer n (ltb-false _ _ e) in omega arith
-
--- the last digit
-last-digit : (n : ℕ) → (48 ≤ nought + n % 10) × (nought + n % 10 ≤ 57)
-last-digit n = (omega arith, omega arith)
-
-one-digit : (n : ℕ) → n < 10 → Numeral n
-unfolding readFrom
-one-digit n h =
-    let e = decimal-one n h in
-    let is : 0 * 10 + (nought + n % 10 - 48) ≡ n = omega arith in
-    record {
-      reads = ap (readFrom 0) e ∙ is;
-      digits = rw e (digits-append [] (nought + n % 10) (λ k m. absurd (not-suc-le-zero m)) (last-digit n));
-      shortest = λ some z.
-          let first : nought + n % 10 ≡ 48 = sym (ap (λ (s : List ℕ). getD s 0 0) e) ∙ z in
-          let no-way : ⊥ = omega arith in
-          no-way;
-    }
-
-numeral : (fuel n : ℕ) → n ≤ fuel → Numeral n
-numeral zero n h = one-digit n (omega arith)
-numeral (suc fuel) n h = pick (λ m. numeral fuel (n / 10) m) (ltb n 10) refl
-  where
-    pick : (n / 10 ≤ fuel → Numeral (n / 10)) → (b : Bool) → ltb n 10 ≡ b → Numeral n
-    pick rest true e = one-digit n (ltb-true _ _ e)
-    pick rest false e =
-        let big : 10 ≤ n = ltb-false _ _ e in
-        let r = rest (omega arith) in
-        let is = decimal-more n big in
-        record {
-          reads = ap (readFrom 0) is ∙ read-append (decimal (n / 10)) 0 (nought + n % 10) ∙ rw (r .reads) (omega arith);
-          digits = rw is (digits-append (decimal (n / 10)) (nought + n % 10) (r .digits) (last-digit n));
-          shortest = λ some z.
-              r .shortest (omega arith)
-              (sym (ap (λ (s : List ℕ). getD s 0 0) is ∙ List·getD-append (decimal (n / 10)) ((nought + n % 10) ∷ []) 0 0 (some-digit (n / 10))) ∙ z);
-        }
-
-pub decimal-reads : DecimalReads
-decimal-reads n = numeral n n (omega arith)

@@ -1,26 +1,27 @@
 -- A record whose head passed its checks: its bytes are all there, and what is left is the mapper's verdict.
 -- Assumes nothing.
-use mathlib.Core.Path.{_≡_, refl, sym, ap, _∙_}
-use mathlib.Core.Bool.{Bool, true, false, cond}
+use mathlib.Core.Path.{_≡_, refl, sym, ap, ap₂, _∙_}
+use mathlib.Core.Bool.{true}
 use mathlib.Core.List.{List}
 use Prim.Native.Nat.{ℕ, _+_, _-_, _≤_, _<_}
 use native.Mathlib.Nat.{add-zero}
 use native.Mathlib.Omega.{arith}
 use borrow.Author.Tests.{leb-true}
-use lib.Dec.{eqb}
 use lib.ListN.{length, getD, take, drop}
 use Rattle.run.specs.declared.Verdict.{Verdict}
-use Rattle.run.specs.Verdicts.{orElse}
-use Rattle.run.proofs.Chain.{or-else-done, leaves-done, leaves-refused}
+use Rattle.run.specs.Verdicts.{orElse, leaves}
+use Rattle.run.proofs.Chain.{or-else-done, or-else-next, unless-pass, leaves-refused}
 use Rattle.run.proofs.Lent.{part-width, part-length, part-at}
-use Rattle.dpch.specs.Formats.{formatOf}
-use Rattle.slot.specs.Rule.{dataSize}
-use Rattle.job.specs.declared.Told.{Told}
-use Rattle.job.specs.Rule.{isKind, byKind, sizeOf, sizeAt, recordAt}
-use Rattle.job.specs.Outcome.{room, secondVerdict, kindHead, recordHead, mapperVerdict, recordVerdict, runVerdict, Writes, Run}
-use Rattle.job.specs.Ready.{Whole}
-use Rattle.job.proofs.Checks.{check-done, present-done, then-refused, then-next}
-use Rattle.job.proofs.Records.{prints-refused}
+use Rattle.lines.specs.declared.Told.{Told}
+use Rattle.lines.specs.Rule.{isKind}
+use Rattle.lines.specs.Outcome.{room, secondVerdict, isWhole, lineVerdict, Record}
+use Rattle.lines.proofs.ByKind.{size-some}
+use Rattle.lines.proofs.Checks.{then-refused, then-next}
+use Rattle.lines.proofs.Records.{prints-refused, is-whole}
+use Rattle.job.specs.declared.Ran.{Ran}
+use Rattle.job.specs.Rule.{sizeAt, recordAt}
+use Rattle.job.specs.Outcome.{kindHead, recordHead, recordVerdict, runVerdict, Run}
+use Rattle.job.proofs.Checks.{check-done, present-done}
 
 pub record Headed (file : List ℕ) (offset : ℕ) : Type 0 where
   pub there : offset < length file
@@ -42,70 +43,58 @@ headed file offset h =
       inside = leb-true _ _ (check-done _ _ (c4 .rest));
     }
 
--- every record has a kind and a byte behind it
-size-some : (kind second : ℕ) → 2 ≤ sizeOf kind second
-unfolding sizeOf byKind
-size-some kind second = pick (eqb kind 1) (eqb kind 2)
-  where
-    pick : (a p : Bool) → 2 ≤ cond a 17 (cond p (2 + second) (4 + formatOf second .tfci + dataSize (formatOf second)))
-    pick true p = omega arith
-    pick false true = omega arith
-    pick false false = omega arith
+-- .. so the record is whole
+module _ (file : List ℕ) (offset : ℕ) where
+  abbrev size : ℕ
+  size = sizeAt file offset
 
-module _ (file : List ℕ) (offset size : ℕ) (e : size ≡ sizeAt file offset) where
-  abbrev part : List ℕ
-  part = take (offset + size - offset) (drop offset file)
-
-  pub part-is : part ≡ recordAt file offset
+  entry : (k : ℕ) → k < size → getD (recordAt file offset) k 0 ≡ getD file (offset + k) 0
   unfolding recordAt
-  part-is = rw (part-width offset size, e)
+  entry k h = rw (part-width offset size) at (part-at file offset size k 0 h)
 
-  pub part-whole : Headed file offset → Whole part
-  part-whole h =
-      let some : 2 ≤ size = rw e (size-some _ _) in
-      let first : getD part 0 0 ≡ getD file offset 0 = part-at file offset size 0 0 (omega arith) ∙ ap (λ (k : ℕ). getD file k 0) (add-zero offset) in
-      let second : getD part 1 0 ≡ getD file (offset + 1) 0 = part-at file offset size 1 0 (omega arith) in
-      record {
+  record-long : offset + size ≤ length file → length (recordAt file offset) ≡ size
+  unfolding recordAt
+  record-long h = rw (part-width offset size) at (part-length file offset size h)
+
+  pub record-whole : Headed file offset → isWhole (recordAt file offset) ≡ true
+  record-whole h =
+      let some = size-some (getD file offset 0) (getD file (offset + 1) 0) in
+      let first = entry 0 (omega arith) ∙ ap (λ (k : ℕ). getD file k 0) (add-zero offset) in
+      let second = entry 1 (omega arith) in
+      is-whole (recordAt file offset) (record {
         kind-ok = rw first (h .kind-ok);
         second-ok = rw (first, second) (h .second-ok);
-        sized = part-length file offset size (rw e (h .inside)) ∙ rw (first, second) e;
-      }
+        sized = record-long (h .inside) ∙ rw (first, second);
+      })
 
--- the head's refusal is the record's; where the head passes, the mapper's verdict is
-pub run-head-refused : (file line : List ℕ) (offset : ℕ) {t : Verdict} → t ≡ orElse (room 1 (length line)) (recordHead file offset) → (t .number ≡ 0 → ⊥)
-    → Run file offset line (record { verdict = t; next = 0; length = 0 }) line
-unfolding runVerdict recordVerdict
-run-head-refused file line offset {t} e h =
-    let is : t ≡ runVerdict file offset (length line) = then-refused _ _ _ e refl refl h in
-    let k = rw is at h in
-    record { verdict-is = is; next-is = sym (leaves-refused _ _ _ k); prints = prints-refused _ _ line k }
+  -- .. as the code lends it
+  pub part-is : {end : ℕ} → end ≡ offset + size → take (end - offset) (drop offset file) ≡ recordAt file offset
+  unfolding recordAt
+  part-is e = rw (e, part-width offset size)
 
-run-is : (file : List ℕ) (offset lineLength : ℕ) {t : Verdict} → t ≡ orElse (room 1 lineLength) (recordHead file offset) → t .number ≡ 0
-    → mapperVerdict (recordAt file offset) ≡ runVerdict file offset lineLength
-unfolding runVerdict recordVerdict
-run-is file offset lineLength e h = then-next _ _ _ e refl refl h
+-- the head's refusal is the record's; where the head passes, what the record's own bytes say is
+module _ (file line : List ℕ) (offset : ℕ) {t : Verdict} (e : t ≡ orElse (room 1 (length line)) (recordHead file offset)) where
+  pub run-refused : (t .number ≡ 0 → ⊥) → Run file offset line (record { verdict = t; next = 0; length = 0 }) line
+  unfolding runVerdict recordVerdict
+  run-refused h =
+      let is : t ≡ runVerdict file offset (length line) = then-refused _ _ _ e refl refl h in
+      let k = rw is at h in
+      record { verdict-is = is; next-is = sym (leaves-refused _ _ _ k); prints = prints-refused _ _ line k }
 
-pub run-refused : (file line : List ℕ) (offset : ℕ) {t : Verdict} {told : Told} {line′ : List ℕ} → t ≡ orElse (room 1 (length line)) (recordHead file offset)
-    → t .number ≡ 0 → Writes (recordAt file offset) line told line′ → (told .verdict .number ≡ 0 → ⊥)
-    → Run file offset line (record { verdict = told .verdict; next = 0; length = 0 }) line′
-run-refused file line offset {told = told} e h w r =
-    let is = run-is file offset (length line) e h in
-    let v : told .verdict ≡ runVerdict file offset (length line) = w .verdict-is ∙ is in
-    let k = rw v at r in
-    record {
-      verdict-is = v;
-      next-is = sym (leaves-refused _ _ _ k);
-      prints = record { length-is = sym (leaves-refused _ _ _ k); line-is = rw (← is) (w .prints .line-is) };
-    }
+  pub run-headed : t .number ≡ 0 → Headed file offset
+  run-headed h = headed file offset (or-else-done _ _ (rw e at h) .rest)
 
-pub run-done : (file line : List ℕ) (offset size : ℕ) {t : Verdict} {told : Told} {line′ : List ℕ} → size ≡ sizeAt file offset
-    → t ≡ orElse (room 1 (length line)) (recordHead file offset) → t .number ≡ 0 → Writes (recordAt file offset) line told line′ → told .verdict .number ≡ 0
-    → Run file offset line (record { verdict = told .verdict; next = offset + size; length = told .length }) line′
-run-done file line offset size {told = told} s e h w r =
-    let is = run-is file offset (length line) e h in
-    let v : told .verdict ≡ runVerdict file offset (length line) = w .verdict-is ∙ is in
-    record {
-      verdict-is = v;
-      next-is = ap (λ (n : ℕ). offset + n) s ∙ sym (leaves-done _ _ _ (rw v at r));
-      prints = rw (← is) (w .prints);
-    }
+  run-is : t .number ≡ 0 → lineVerdict (recordAt file offset) (length line) ≡ runVerdict file offset (length line)
+  unfolding lineVerdict runVerdict recordVerdict
+  run-is h =
+      let whole = record-whole file offset (run-headed h) in
+      or-else-next _ _ (or-else-done _ _ (rw e at h) .first)
+      ∙ or-else-next _ _ (ap (λ (v : Verdict). v .number) (unless-pass 3 0 whole))
+      ∙ then-next _ _ _ e refl refl h
+
+  pub run-told : {end : ℕ} {told : Told} {line′ : List ℕ} {answer : Ran} → t .number ≡ 0 → end ≡ offset + sizeAt file offset → Record (recordAt file offset) line told line′
+      → answer ≡ record { verdict = told .verdict; next = leaves (told .verdict) end 0; length = told .length } → Run file offset line answer line′
+  run-told {end} {told} h s r a =
+      let is = run-is h in
+      let v : told .verdict ≡ runVerdict file offset (length line) = r .verdict-is ∙ is in
+      rw a (record { verdict-is = v; next-is = ap₂ (λ (w : Verdict) (n : ℕ). leaves w n 0) v s; prints = rw (← is) (r .prints) })

@@ -1,8 +1,3 @@
-pub mod Put
-pub mod Words
-pub mod Values
-pub mod ByKind
 pub mod Checks
-pub mod Records
 pub mod Headed
 pub mod Exact

@@ -1,17 +1,17 @@
 -- What a program prints by these calls, and what else document 01 says of a job file. Each statement is proved in proofs/Exact.antt under its name in small
 -- letters.
 -- Assumes nothing.
-use Prim.Native.Nat.{ℕ, suc, _+_, _*_, _-_, _≤_, _<_}
+use Prim.Native.Nat.{ℕ, suc, _≤_}
 use mathlib.Core.Path.{_≡_}
 use mathlib.Core.List.{List, [], _∷_, _++_}
 use mathlib.Core.Logic.{_↔_}
-use lib.ListN.{length, getD, take}
+use lib.ListN.{length, take}
 use Rattle.run.specs.declared.Verdict.{Verdict}
+use Rattle.lines.specs.declared.Told.{Told}
+use Rattle.lines.specs.Outcome.{lineSize, Tell}
 use Rattle.job.specs.declared.Opened.{Opened}
 use Rattle.job.specs.declared.Ran.{Ran}
-use Rattle.job.specs.declared.Told.{Told}
-use Rattle.job.specs.Text.{decimal}
-use Rattle.job.specs.Outcome.{lineSize, endVerdict, Open, Run, Tell}
+use Rattle.job.specs.Outcome.{endVerdict, Open, Run}
 use Rattle.job.specs.Printed.{printed}
 
 -- a refusal is told: the call answers, and this text stands at the front of its line
@@ -43,19 +43,6 @@ pub data Job (file : List ℕ) : List ℕ → Type 0 where
 abbrev pub JobPrints : Type 0
 JobPrints = (file text : List ℕ) → Job file text ↔ (text ≡ printed file)
 
--- a number's text gives the number back, holds digits alone, and begins with 0 only where it is 0
-unfoldable pub readFrom : ℕ → List ℕ → ℕ
-readFrom before [] = before
-readFrom before (d ∷ s) = readFrom (before * 10 + (d - 48)) s
-
-pub record Numeral (n : ℕ) : Type 0 where
-  pub reads : readFrom 0 (decimal n) ≡ n
-  pub digits : (k : ℕ) → k < length (decimal n) → (48 ≤ getD (decimal n) k 0) × (getD (decimal n) k 0 ≤ 57)
-  pub shortest : 0 < n → getD (decimal n) 0 0 ≡ 48 → ⊥
-
-abbrev pub DecimalReads : Type 0
-DecimalReads = (n : ℕ) → Numeral n
-
 -- each promise allows one outcome
 abbrev pub OpenOnce : Type 0
 OpenOnce = (file line : List ℕ) (a b : Opened) (x y : List ℕ) → Open file line a x → Open file line b y → (a ≡ b) × (x ≡ y)
@@ -65,9 +52,6 @@ RunOnce = (file : List ℕ) (offset : ℕ) (line : List ℕ) (a b : Ran) (x y : 
 
 abbrev pub EndOnce : Type 0
 EndOnce = (file : List ℕ) (offset : ℕ) (a b : Verdict) → a ≡ endVerdict file offset → b ≡ endVerdict file offset → a ≡ b
-
-abbrev pub TellOnce : Type 0
-TellOnce = (refusal : Verdict) (line : List ℕ) (a b : Told) (x y : List ℕ) → Tell refusal line a x → Tell refusal line b y → (a ≡ b) × (x ≡ y)
 
 -- document 01: 'Bytes 53 4C 54 00 01 01 03 01 01 01 00 01 01 00 print exactly' the lines 'SLT 1 1' and 'DPCH 1 1 1101101100'
 pub record Worked : Type 0 where

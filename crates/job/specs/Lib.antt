@@ -1,7 +1,5 @@
 pub mod Faults
-pub mod Text
 pub mod Rule
 pub mod Outcome
-pub mod Ready
 pub mod Printed
 pub mod Exact

@@ -3,7 +3,8 @@
 use Prim.Native.Nat.{ℕ, zero, suc, _+_}
 use mathlib.Core.List.{List, [], _++_}
 use Rattle.run.specs.Verdicts.{leaves}
-use Rattle.job.specs.Rule.{countIn, firstRecord, sizeAt, recordAt, headLine, recordLine, refusalLine}
+use Rattle.lines.specs.Rule.{headLine, recordLine, refusalLine}
+use Rattle.job.specs.Rule.{countIn, firstRecord, sizeAt, recordAt}
 use Rattle.job.specs.Outcome.{headVerdict, recordVerdict, endVerdict}
 
 -- from an offset on, with n records left

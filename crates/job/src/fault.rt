@@ -1,6 +1,7 @@
 // What can be wrong with a job file itself, by name; a mapper's refusals are its own.
 use run::Verdict;
 use run::refusal;
+use run::unless;
 ghost use mathlib.Core.Path.{_≡_};
 ghost use Rattle.job.specs.Faults.{verdictOf, check};
 
@@ -47,12 +48,6 @@ pub(crate) fn verdict_of(fault: Fault) -> Verdict
 pub(crate) fn check(ok: bool, fault: Fault) -> Verdict
     ensures { λ r. ⌜ r ≡ check ok fault ⌝ }
 {
-    if ok {
-        Verdict {
-            number: 0,
-            place: 0,
-        }
-    } else {
-        verdict_of(fault)
-    }
+    let v = verdict_of(fault);
+    unless(ok, v.number, v.place)
 }

@@ -1,8 +1,9 @@
 // The checks of a job file's own bytes: its header, and the head of a record.
-use crate::LINE;
 use crate::fault::Fault;
 use crate::fault::check;
-use dpch::format_of;
+use lines::LINE;
+use lines::Shape;
+use lines::shape_of;
 use run::Verdict;
 use run::or_else;
 use run::refusal;
@@ -10,19 +11,16 @@ use run::unless;
 ghost use mathlib.Core.Path.{_≡_};
 ghost use Prim.Native.Nat.{_+_, _<_};
 ghost use lib.ListN.{length, getD};
-ghost use Rattle.job.specs.Rule.{isKind, sizeOf};
 ghost use Rattle.run.specs.Verdicts.{orElse};
-ghost use Rattle.job.specs.Outcome.{room, present, byteIs, headVerdict, secondVerdict, kindHead, recordHead};
+ghost use Rattle.lines.specs.Outcome.{room, shapeOf};
+ghost use Rattle.job.specs.Rule.{sizeAt};
+ghost use Rattle.job.specs.Outcome.{present, byteIs, headVerdict, kindHead, recordHead};
 
 // The byte at an offset, 0 where there is none.
-pub(crate) fn byte_at(file: &[u8], at: usize) -> usize
-    ensures { λ r. ⌜ (r ≡ getD (now (file .entry)) «at» 0) × (r < 256) ⌝ }
+pub(crate) fn byte_at(file: &[u8], at: usize) -> u8
+    ensures { λ r. ⌜ r ≡ getD (now (file .entry)) «at» 0 ⌝ }
 {
-    if at < file.len() {
-        file[at] as usize
-    } else {
-        0
-    }
+    if at < file.len() { file[at] } else { 0 }
 }
 
 fn present(file: &[u8], at: usize) -> Verdict
@@ -31,7 +29,7 @@ fn present(file: &[u8], at: usize) -> Verdict
     check(at < file.len(), Fault::EndsEarly(file.len()))
 }
 
-fn byte_is(file: &[u8], at: usize, byte: usize, fault: Fault) -> Verdict
+fn byte_is(file: &[u8], at: usize, byte: u8, fault: Fault) -> Verdict
     ensures { λ r. ⌜ r ≡ byteIs (now (file .entry)) «at» byte fault ⌝ }
 {
     or_else(present(file, at), check(byte_at(file, at) == byte, fault))
@@ -50,42 +48,21 @@ pub(crate) fn head_verdict(file: &[u8]) -> Verdict
     or_else(check(file.len() <= 65535, Fault::OverLong), s)
 }
 
-fn is_kind(kind: usize) -> bool
-    ensures { λ r. ⌜ r ≡ isKind kind ⌝ }
+// What the first two bytes of the record at an offset say.
+fn shape_at(file: &[u8], at: usize) -> Shape
+    requires { ⌜ «at» < length (now file) ⌝ }
+    ensures { λ r. ⌜ r ≡ shapeOf (getD (now (file .entry)) «at» 0) (getD (now (file .entry)) («at» + 1) 0) ⌝ }
 {
-    match kind {
-        1 | 2 | 3 => true,
-        _ => false,
-    }
+    shape_of(byte_at(file, at), byte_at(file, at + 1))
 }
 
-// What the byte behind the kind must be: Np of a PICH record, the format of a DPCH record.
-fn second_verdict(kind: usize, second: usize) -> Verdict
-    ensures { λ r. ⌜ r ≡ secondVerdict kind second ⌝ }
+// Where the record at an offset ends.
+pub(crate) fn end_of(file: &[u8], at: usize) -> usize
+    requires { ⌜ «at» < length (now file) ⌝ }
+    ensures { λ r. ⌜ r ≡ «at» + sizeAt (now (file .entry)) «at» ⌝ }
 {
-    match kind {
-        1 => Verdict {
-            number: 0,
-            place: 0,
-        },
-        2 => unless(pich::is_np(second), refusal::NP, 0),
-        _ => unless(second <= 16, refusal::FORMAT, 0),
-    }
-}
-
-// The bytes of a record, its kind among them.
-pub(crate) fn size_of(kind: usize, second: usize) -> usize
-    requires { ⌜ second < 256 ⌝ }
-    ensures { λ r. ⌜ r ≡ sizeOf kind second ⌝ }
-{
-    match kind {
-        1 => 17,
-        2 => 2 + second,
-        _ => {
-            let f = format_of(second);
-            4 + f.tfci + (f.data1 + f.data2)
-        }
-    }
+    let shape = shape_at(file, at);
+    at + shape.size
 }
 
 // The checks of a record's head, from its kind on.
@@ -94,12 +71,11 @@ fn kind_head(file: &[u8], at: usize) -> Verdict
     ensures { λ r. ⌜ r ≡ kindHead (now (file .entry)) «at» ⌝ }
 {
     let n = file.len();
-    let kind = byte_at(file, at);
-    let second = byte_at(file, at + 1);
-    let short = check(at + size_of(kind, second) <= n, Fault::EndsEarly(n));
-    let number = or_else(second_verdict(kind, second), short);
+    let shape = shape_at(file, at);
+    let short = check(end_of(file, at) <= n, Fault::EndsEarly(n));
+    let number = or_else(shape.verdict, short);
     let there = or_else(present(file, at + 1), number);
-    or_else(check(is_kind(kind), Fault::UnknownKind(at)), there)
+    or_else(check(shape.known, Fault::UnknownKind(at)), there)
 }
 
 // A line with room, and a record whose bytes are all there.

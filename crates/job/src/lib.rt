@@ -1,20 +1,16 @@
 // Job files: document 01, 'Job file and program'. A program opens a file, runs its records one after the other, ends it, and tells the first refusal.
+use lines::LINE;
+use lines::Told;
 use run::Verdict;
 use run::or_else;
 use run::refusal;
 use run::unless;
 ghost use mathlib.Core.Path.{_≡_};
-ghost use Prim.Native.Nat.{_<_};
-ghost use lib.ListN.{length};
-ghost use Rattle.job.specs.Outcome.{openVerdict, Open, Run, endVerdict, Tell};
+ghost use Rattle.run.specs.Verdicts.{leaves};
+ghost use Rattle.job.specs.Outcome.{openVerdict, Open, Run, endVerdict};
 
 mod fault;
 mod head;
-mod line;
-mod text;
-
-// The bytes of the longest line, which is a DPCH record's of format 16.
-pub const LINE: usize = 1292;
 
 // What `open` answers: the number of records, where the first begins, and how long the line is; 0 where refused.
 pub struct Opened {
@@ -28,12 +24,6 @@ pub struct Opened {
 pub struct Ran {
     pub verdict: Verdict,
     pub next: usize,
-    pub length: usize,
-}
-
-// What `tell` answers: how long the line is; 0 where refused.
-pub struct Told {
-    pub verdict: Verdict,
     pub length: usize,
 }
 
@@ -58,12 +48,31 @@ pub fn open(file: &[u8], line: &mut [u8]) -> Opened
         };
     }
     let count = head::byte_at(file, 5);
-    let length = line::head(count, line);
+    let told = lines::head(count, line);
     Opened {
         verdict,
-        count,
+        count: count as usize,
         next: 6,
-        length,
+        length: told.length,
+    }
+}
+
+// What is answered for a record whose bytes are all there, once its line is told or refused.
+fn answer(told: Told, end: usize) -> Ran
+    ensures { λ r. ⌜ r ≡ record { verdict = told .verdict; next = leaves (told .verdict) end 0; length = told .length } ⌝ }
+{
+    let verdict = told.verdict;
+    if verdict.number != 0 {
+        return Ran {
+            verdict,
+            next: 0,
+            length: told.length,
+        };
+    }
+    Ran {
+        verdict,
+        next: end,
+        length: told.length,
     }
 }
 
@@ -79,21 +88,9 @@ pub fn run(file: &[u8], at: usize, line: &mut [u8]) -> Ran
             length: 0,
         };
     }
-    let end = at + head::size_of(head::byte_at(file, at), head::byte_at(file, at + 1));
-    let told = line::record(&file[at..end], line);
-    let verdict = told.verdict;
-    if verdict.number != 0 {
-        return Ran {
-            verdict,
-            next: 0,
-            length: 0,
-        };
-    }
-    Ran {
-        verdict,
-        next: end,
-        length: told.length,
-    }
+    let end = head::end_of(file, at);
+    let told = lines::record(&file[at..end], line);
+    answer(told, end)
 }
 
 // Refused where a byte stands at the offset behind the last record.
@@ -101,16 +98,4 @@ pub fn end(file: &[u8], at: usize) -> Verdict
     ensures { λ r. ⌜ r ≡ endVerdict (now (file .entry)) «at» ⌝ }
 {
     fault::check(file.len() <= at, fault::Fault::BytesAfter(at))
-}
-
-// The line of a refusal.
-pub fn tell(refused: Verdict, line: &mut [u8]) -> Told
-    ensures { λ r. ⌜ Tell refused (now (line .entry)) r (now (line .exit)) ⌝ }
-{
-    let verdict = unless(LINE <= line.len(), refusal::LENGTH, 0);
-    if verdict.number != 0 {
-        return Told { verdict, length: 0 };
-    }
-    let length = line::refusal(refused, line);
-    Told { verdict, length }
 }

@@ -10,15 +10,15 @@ use borrow.Rule.Slice.PartMut.{putMid, midOf}
 use borrow.Author.Tests.{eqb-true, eqb-false, ltb-true, ltb-false}
 use lib.Dec.{eqb, ltb}
 use lib.ListN.{length, getD, set, take, drop, replicate, length-set, length-replicate, getD-replicate, take-append-drop, length-drop}
-use lib.Seq.{getD-set-same, getD-set-other, getD-drop}
+use lib.Seq.{getD-set-same, getD-set-other, getD-drop, length-take-le}
 use Rattle.run.specs.Digits.{dtx}
 use Rattle.run.specs.Written.{over}
-use Rattle.run.proofs.Front.{Front, front-none, front-length, front-store, front-lent, front-part, front-all}
+use Rattle.run.proofs.Front.{Front, front-none, front-length, front-all}
 use Rattle.run.proofs.Lent.{part-width, part-length, same-part, front-same, front-copied}
 use Rattle.run.proofs.Table.{tab-length, tab-at}
 use Rattle.sttd.specs.Rule.{sttd, barDigit}
 use Rattle.sttd.specs.Outcome.{encodedOver}
-use Rattle.sttd.proofs.Laws.{sttd-length, sttd-short, sttd-take, sttd-drop, sttd-stretch, tail-kept}
+use Rattle.sttd.proofs.Laws.{sttd-short, sttd-take, sttd-drop, tail-kept}
 use Rattle.sttd.proofs.Runs.{encoded-whole}
 use Rattle.pccpch.specs.Rule.{place, filled, frameOf, coded, secondOf, dataIn}
 
@@ -154,7 +154,7 @@ frame-ends digits f = front-all f (let n = blank-length in omega arith)
 pub written-length : (digits : List ℕ) {frame : List ℕ} {a : ℕ} → Front (frameOf digits) blank frame a → length frame ≡ 300
 written-length digits f = front-length f ∙ blank-length
 
--- ---- the data as it is read, slot after slot
+-- ---- the data as it is read
 module _ (frame : List ℕ) where
   pub data-length : length (dataIn frame) ≡ 270
   unfolding dataIn
@@ -163,27 +163,6 @@ module _ (frame : List ℕ) where
   pub data-at : (d : ℕ) → d < 270 → getD (dataIn frame) d 0 ≡ getD frame (place d) 0
   unfolding dataIn
   data-at d h = tab-at 270 _ d 0 h
-
-  module _ (long : length frame ≡ 300) (s : ℕ) (h : s < 15) where
-    slot-read : take 18 (drop (20 * s + 2) frame) ≡ take 18 (drop (18 * s) (dataIn frame))
-    slot-read =
-        let n = data-length in
-        same-part 0 frame (dataIn frame) (20 * s + 2) (18 * s) 18 (omega arith) (omega arith)
-        (λ j l.
-        let there : 20 * s + 2 + j ≡ place (18 * s + j) = omega arith in
-        ap (λ (n : ℕ). getD frame n 0) there ∙ sym (data-at (18 * s + j) (omega arith)))
-
-    pub slot-taken : {d₀ d ys : List ℕ} → length d₀ ≡ 270 → Front (dataIn frame) d₀ d (18 * s)
-        → ys ≡ over (take (20 * s + 2 + 18 - (20 * s + 2)) (drop (20 * s + 2) frame)) (midOf (18 * s) (18 * s + 18 - 18 * s) d)
-        → Front (dataIn frame) d₀ (putMid (18 * s) (18 * s + 18 - 18 * s) d ys) (18 * (s + 1))
-    slot-taken {d₀} {d} {ys} m f e =
-        let src : length (take (20 * s + 2 + 18 - (20 * s + 2)) (drop (20 * s + 2) frame)) ≡ 18 = part-length frame (20 * s + 2) 18 (omega arith) in
-        let is : take (20 * s + 2 + 18 - (20 * s + 2)) (drop (20 * s + 2) frame) ≡ take 18 (drop (18 * s) (dataIn frame)) =
-        rw (part-width (20 * s + 2) 18) slot-read
-        in
-        let next : 18 * s + 18 ≡ 18 * (s + 1) = omega arith in
-        subst (λ (n : ℕ). Front (dataIn frame) d₀ (putMid (18 * s) (18 * s + 18 - 18 * s) d ys) n) next
-        (front-copied _ (18 * s) 18 f (omega arith) src is e)
 
 -- ---- antenna 2's digits
 module _ (digits : List ℕ) (long : length digits ≡ 270) where
@@ -195,24 +174,6 @@ module _ (digits : List ℕ) (long : length digits ≡ 270) where
       rw (← sttd-short barDigit (drop 268 digits) few, sttd-take barDigit 67 digits, sttd-drop barDigit 67 digits)
       (take-append-drop 268 (sttd barDigit digits))
 
-  pub coded-length : length (coded digits) ≡ 270
-  coded-length = ap length coded-is ∙ sttd-length barDigit digits ∙ long
-
-  -- a stretch of whole blocks, as the encoder leaves it in the part that it is lent
-  pub stretch-coded : {d₀ d ys : List ℕ} (a w : ℕ) → a % 4 ≡ 0 → w % 4 ≡ 0 → a + w ≤ 268 → length d₀ ≡ 270 → Front (coded digits) d₀ d a
-      → ys ≡ encodedOver (take (a + w - a) (drop a digits)) (midOf a (a + w - a) d)
-      → Front (coded digits) d₀ (putMid a (a + w - a) d ys) (a + w)
-  stretch-coded {d₀} {d} {ys} a w p q h m f e =
-      let src : length (take (a + w - a) (drop a digits)) ≡ w = part-length digits a w (omega arith) in
-      let lent : length (midOf a (a + w - a) d) ≡ w = front-lent a (a + w) f (omega arith) ∙ part-width a w in
-      let whole : ys ≡ sttd barDigit (take (a + w - a) (drop a digits)) =
-      e ∙ encoded-whole (take (a + w - a) (drop a digits)) (midOf a (a + w - a) d) (rw src q) (lent ∙ sym src)
-      in
-      let there : ys ≡ take (a + w - a) (drop a (coded digits)) =
-      whole ∙ rw (part-width a w, coded-is) (sttd-stretch barDigit digits a w p q)
-      in
-      front-part (a + w) f (omega arith) (omega arith) there
-
   -- digits 268 and 269
   pub last-kept : (d : ℕ) → 268 ≤ d → d < 270 → getD digits d 0 ≡ getD (coded digits) d 0
   last-kept d h l =
@@ -220,9 +181,11 @@ module _ (digits : List ℕ) (long : length digits ≡ 270) where
       let kept = tail-kept barDigit digits 67 (omega arith) in
       rw (coded-is, ← is) (sym (getD-drop 268 digits (d - 268) 0) ∙ ap (λ (t : List ℕ). getD t (d - 268) 0) (sym kept) ∙ getD-drop 268 (sttd barDigit digits) (d - 268) 0)
 
-  pub code-ends : {d₀ d : List ℕ} → length d₀ ≡ 270 → Front (coded digits) d₀ d 268 → set (set d 268 (getD digits 268 0)) 269 (getD digits 269 0) ≡ coded digits
-  code-ends {d₀} {d} m f =
-      let n = front-length f in
-      let f1 = front-store 0 f (omega arith) (last-kept 268 (omega arith) (omega arith)) in
-      let f2 = front-store 0 f1 (simp length-set (omega arith)) (last-kept 269 (omega arith) (omega arith)) in
-      front-all f2 (omega arith)
+  -- the digits are copied, and the encoder leaves its blocks in the first 268 of the copy
+  pub code-stands : {d ys : List ℕ} → d ≡ digits → ys ≡ encodedOver (take 268 digits) (midOf 0 268 d) → putMid 0 268 d ys ≡ coded digits
+  unfolding coded
+  code-stands {d} {ys} e f =
+      let src : length (take 268 digits) ≡ 268 = length-take-le 268 digits (omega arith) in
+      let lent : midOf 0 268 d ≡ take 268 digits = ap (λ (l : List ℕ). take 268 l) e in
+      let whole : ys ≡ sttd barDigit (take 268 digits) = f ∙ encoded-whole (take 268 digits) (midOf 0 268 d) (rw src refl) (ap length lent) in
+      rw (whole, e) refl

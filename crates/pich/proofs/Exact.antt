@@ -1,9 +1,9 @@
 -- The theorems of specs/Exact.antt.
 -- Assumes nothing.
 use mathlib.Core.Path.{_≡_, refl, sym, ap, _∙_, subst}
-use mathlib.Core.Bool.{Bool, true, false, not, _&&_}
+use mathlib.Core.Bool.{Bool, true, false, not}
 use mathlib.Core.List.{List}
-use Prim.Native.Nat.{ℕ, _+_, _*_, _/_, _%_, _≤_, _<_}
+use Prim.Native.Nat.{ℕ, _*_, _/_, _≤_, _<_}
 use native.Mathlib.Nat.{add-zero, mod-lt}
 use native.Mathlib.Omega.{arith}
 use borrow.Author.Tests.{eqb-true, eqb-false, leb-true, ltb-true, ltb-false, lt-ltb, le-ltb, le-leb, eq-eqb, ne-eqb, not-true}
@@ -13,15 +13,14 @@ use lib.Seq.{ext-getD}
 use Rattle.run.specs.declared.Verdict.{Verdict}
 use Rattle.run.specs.Digits.{dtx}
 use Rattle.run.specs.First.{Every, atMost}
-use Rattle.run.specs.Verdicts.{done, orElse, unless, leaves, Narrow}
+use Rattle.run.specs.Verdicts.{done, leaves, Narrow}
 use Rattle.run.proofs.Bools.{and-left, and-right}
-use Rattle.run.proofs.Chain.{or-else-done, or-else-pass, unless-pass, each-pass, or-else-narrow, unless-narrow, check-narrow, each-narrow, leaves-done, leaves-refused, one-outcome, unless-done}
+use Rattle.run.proofs.Chain.{or-else-pass, unless-pass, each-pass, or-else-narrow, unless-narrow, check-narrow, each-narrow, leaves-done, leaves-refused, one-outcome}
 use Rattle.pich.specs.declared.Pi.{Pi}
-use Rattle.pich.specs.declared.Paging.{Paging}
-use Rattle.pich.specs.Rule.{isNp, width, frameOf, indicatorsIn, qOf}
-use Rattle.pich.specs.Outcome.{qVerdict, Q, mapVerdict, Map, stands, readHead, readVerdict, Read}
-use Rattle.pich.specs.Exact.{Gives, Exact, ReadExact, Filled, FrameFilled, QBelow, QOnce, MapOnce, ReadOnce, Packs, Marked}
-use Rattle.pich.proofs.Laws.{groups, frame-length, digit-at, tail-at, filled-at, indicators-length, indicator-at, Asked, asked, Taken, taken, Headed, Accepted, accepted}
+use Rattle.pich.specs.Rule.{width, frameOf, indicatorsIn, qOf}
+use Rattle.pich.specs.Outcome.{qVerdict, mapVerdict, stands, readHead, readVerdict}
+use Rattle.pich.specs.Exact.{Gives, ReadExact, FrameFilled, QBelow, QOnce, MapOnce, ReadOnce, Packs}
+use Rattle.pich.proofs.Laws.{groups, frame-length, digit-at, tail-at, filled-at, indicators-length, indicator-at, asked, Taken, taken, Accepted, accepted}
 
 -- what `stands` says of a digit, on either side of 288
 module _ (np : ℕ) (frame : List ℕ) (k : ℕ) where
@@ -228,7 +227,3 @@ packs =
       map-narrow = map-narrow;
       read-narrow = read-narrow;
     }
-
-pub marked : Marked
-unfolding qOf isNp qVerdict orElse unless
-marked = record { p7 = (refl, refl); p8 = (refl, refl); sfn-4096 = refl; np-73 = λ pi sfn. refl }

@@ -1,25 +1,22 @@
 -- Laws of the four numbers of indicators, and of a frame's groups of digits.
 -- Assumes nothing.
-use mathlib.Core.Path.{_≡_, refl, sym, ap, _∙_, subst}
-use mathlib.Core.Bool.{Bool, true, false, cond, not, _&&_, _||_}
+use mathlib.Core.Path.{_≡_, refl, ap, _∙_, subst}
+use mathlib.Core.Bool.{Bool, true, false, _||_}
 use mathlib.Core.List.{List}
 use mathlib.Core.Logic.{_⊎_, inl, inr, ⊎-elim}
 use Prim.Native.Nat.{ℕ, _+_, _-_, _*_, _/_, _%_, _≤_, _<_}
-use native.Mathlib.Nat.{add-zero, mul-le-mul, mod-lt}
+use native.Mathlib.Nat.{mul-le-mul}
 use native.Mathlib.Omega.{arith}
 use borrow.Rule.Slice.PartMut.{putMid, midOf}
 use borrow.Author.Tests.{eqb-true, ltb-true, ne-eqb, lt-ltb, le-ltb}
-use lib.Dec.{eqb, ltb}
-use lib.ListN.{length, getD, take, drop, replicate, length-drop}
-use lib.Seq.{length-take-le, getD-take, getD-drop}
+use lib.Dec.{eqb}
+use lib.ListN.{length, getD, take, drop, replicate}
 use Rattle.run.specs.Digits.{dtx}
-use Rattle.run.specs.First.{firstBad, Every, atMost, isAt, likeFirst}
-use Rattle.run.specs.Table.{tab}
-use Rattle.run.proofs.First.{first-in-part, part-passes, first-in-last}
-use Rattle.run.proofs.Chain.{or-else-done, unless-done, each-done}
+use Rattle.run.specs.First.{Every, atMost}
+use Rattle.run.proofs.Chain.{four-done, or-else-done, unless-done, each-done}
 use Rattle.run.proofs.Front.{Front, front-fill, front-all}
 use Rattle.run.proofs.Table.{tab-length, tab-at, equal-part}
-use Rattle.pich.specs.Rule.{isNp, width, frameOf, indicatorsIn, qOf}
+use Rattle.pich.specs.Rule.{isNp, width, frameOf, indicatorsIn}
 use Rattle.pich.specs.declared.Pi.{Pi}
 use Rattle.pich.specs.Outcome.{qVerdict, mapVerdict, stands, readHead, readVerdict}
 
@@ -135,72 +132,6 @@ module _ (np : ℕ) (frame : List ℕ) where
   unfolding indicatorsIn
   indicator-at q h = tab-at np _ q 0 h
 
--- the reader's scan of a frame, group by group and then the tail
-module _ (np : ℕ) (ok : isNp np ≡ true) (frame : List ℕ) (long : length frame ≡ 300) where
-  -- the digits from r on, as they are lent
-  lent : (r w : ℕ) → r + w ≤ 300 → length (take (r + w - r) (drop r frame)) ≡ w
-  lent r w h =
-      let e : r + w - r ≡ w = omega arith in
-      let room : w ≤ length (drop r frame) = simp length-drop (omega arith) in
-      rw e (length-take-le w (drop r frame) room)
-
-  lent-at : (r w j : ℕ) → j < w → getD (take (r + w - r) (drop r frame)) j 0 ≡ getD frame (r + j) 0
-  lent-at r w j h =
-      let l : j < r + w - r = omega arith in
-      getD-take (r + w - r) (drop r frame) j 0 l ∙ getD-drop r frame j 0
-
-  in-group : (q r j : ℕ) → q < np → r ≡ width np * q → j < width np
-      → likeFirst (take (r + width np - r) (drop r frame)) j ≡ stands np frame (r + j)
-  unfolding stands
-  in-group q r j h e l =
-      let g = groups np ok in
-      let room = g .inside q h in
-      let inside : r + j < 288 = omega arith in
-      let some : 0 < width np = omega arith in
-      let group : width np * ((r + j) / width np) ≡ r = rw e (ap (λ (n : ℕ). width np * n) (g .group-of q j l)) in
-      let first : getD (take (r + width np - r) (drop r frame)) 0 0 ≡ getD frame r 0 = lent-at r (width np) 0 some ∙ ap (λ (n : ℕ). getD frame n 0) (add-zero r) in
-      rw (lt-ltb (r + j) 288 inside, lent-at r (width np) j l, first, group)
-
-  -- a group with a digit that may not stand there: its first is the frame's first
-  pub hit : (q r i : ℕ) → q < np → r ≡ width np * q → Every (stands np frame) (width np * q)
-      → i ≡ firstBad (likeFirst (take (r + width np - r) (drop r frame))) (length (take (r + width np - r) (drop r frame)))
-      → i < width np → r + i ≡ firstBad (stands np frame) 300
-  hit q r i h e before f l =
-      let room = groups np ok .inside q h in
-      let found = rw (lent r (width np) (omega arith)) at f in
-      let here : r + width np ≤ 300 = omega arith in
-      let below : firstBad (likeFirst (take (r + width np - r) (drop r frame))) (width np) < width np = rw found at l in
-      rw found
-      (first-in-part (stands np frame) (likeFirst (take (r + width np - r) (drop r frame))) r (width np) (rw e before)
-      (λ j m. in-group q r j h e m) 300 here below)
-
-  -- a group that may stand: all up to its end may
-  pub pass : (q r i : ℕ) → q < np → r ≡ width np * q → Every (stands np frame) (width np * q)
-      → i ≡ firstBad (likeFirst (take (r + width np - r) (drop r frame))) (length (take (r + width np - r) (drop r frame)))
-      → width np ≤ i → Every (stands np frame) (width np * (q + 1))
-  pass q r i h e before f l =
-      let g = groups np ok in
-      let room = g .inside q h in
-      let found = rw (lent r (width np) (omega arith)) at f in
-      let next : r + width np ≡ width np * (q + 1) = ap (λ (n : ℕ). n + width np) e ∙ g .next q in
-      subst (λ (n : ℕ). Every (stands np frame) n) next
-      (part-passes (stands np frame) (likeFirst (take (r + width np - r) (drop r frame))) r (width np) (rw e before)
-      (λ j m. in-group q r j h e m) (rw found at l))
-
-  in-tail : (j : ℕ) → j < 12 → isAt dtx (take 12 (drop 288 frame)) j ≡ stands np frame (288 + j)
-  unfolding stands
-  in-tail j h =
-      let outside : 288 ≤ 288 + j = omega arith in
-      rw (le-ltb (288 + j) 288 outside, lent-at 288 12 j h)
-
-  -- the groups may stand, and the scan of the tail ends the search
-  pub last : (i : ℕ) → Every (stands np frame) 288
-      → i ≡ firstBad (isAt dtx (take 12 (drop 288 frame))) (length (take 12 (drop 288 frame)))
-      → 288 + i ≡ firstBad (stands np frame) 300
-  last i before f =
-      let found = rw (lent 288 12 (omega arith)) at f in
-      rw found (first-in-last (stands np frame) (isAt dtx (take 12 (drop 288 frame))) 288 12 before in-tail)
-
 -- what is known where no check refused
 pub record Asked (np : ℕ) (pi : Pi) (sfn : ℕ) : Type 0 where
   pub np-ok : isNp np ≡ true
@@ -227,14 +158,12 @@ pub record Taken (np : ℕ) (indicators : List ℕ) (frameLength : ℕ) : Type 0
 pub taken : (np : ℕ) (indicators : List ℕ) (frameLength : ℕ) → mapVerdict np indicators frameLength .number ≡ 0 → Taken np indicators frameLength
 unfolding mapVerdict
 taken np indicators frameLength h =
-    let c1 = or-else-done _ _ h in
-    let c2 = or-else-done _ _ (c1 .rest) in
-    let c3 = or-else-done _ _ (c2 .rest) in
+    let c = four-done _ _ _ _ h in
     record {
-      np-ok = unless-done _ 8 0 (omega arith) (c1 .first);
-      indicators-ok = eqb-true _ _ (unless-done _ 3 0 (omega arith) (c2 .first));
-      frame-ok = eqb-true _ _ (unless-done _ 3 1 (omega arith) (c3 .first));
-      digits-ok = each-done 0 4 _ _ (omega arith) (c3 .rest);
+      np-ok = unless-done _ 8 0 (omega arith) (c .first);
+      indicators-ok = eqb-true _ _ (unless-done _ 3 0 (omega arith) (c .second));
+      frame-ok = eqb-true _ _ (unless-done _ 3 1 (omega arith) (c .third));
+      digits-ok = each-done 0 4 _ _ (omega arith) (c .fourth);
     }
 
 pub record Headed (np : ℕ) (frame : List ℕ) (indicatorsLength : ℕ) : Type 0 where
@@ -246,14 +175,12 @@ pub record Headed (np : ℕ) (frame : List ℕ) (indicatorsLength : ℕ) : Type 
 pub headed : (np : ℕ) (frame : List ℕ) (indicatorsLength : ℕ) → readHead np frame indicatorsLength .number ≡ 0 → Headed np frame indicatorsLength
 unfolding readHead
 headed np frame indicatorsLength h =
-    let c1 = or-else-done _ _ h in
-    let c2 = or-else-done _ _ (c1 .rest) in
-    let c3 = or-else-done _ _ (c2 .rest) in
+    let c = four-done _ _ _ _ h in
     record {
-      np-ok = unless-done _ 8 0 (omega arith) (c1 .first);
-      frame-ok = eqb-true _ _ (unless-done _ 3 0 (omega arith) (c2 .first));
-      indicators-ok = eqb-true _ _ (unless-done _ 3 1 (omega arith) (c3 .first));
-      digits-ok = each-done 0 4 _ _ (omega arith) (c3 .rest);
+      np-ok = unless-done _ 8 0 (omega arith) (c .first);
+      frame-ok = eqb-true _ _ (unless-done _ 3 0 (omega arith) (c .second));
+      indicators-ok = eqb-true _ _ (unless-done _ 3 1 (omega arith) (c .third));
+      digits-ok = each-done 0 4 _ _ (omega arith) (c .fourth);
     }
 
 pub record Accepted (np : ℕ) (frame : List ℕ) (indicatorsLength : ℕ) : Type 0 where

@@ -8,8 +8,7 @@ use mathlib.Core.Logic.{_↔_}
 use lib.ListN.{length, getD}
 use Rattle.run.specs.declared.Verdict.{Verdict}
 use Rattle.run.specs.Digits.{dtx}
-use Rattle.run.specs.Refusals.{npRefused, rangeRefused}
-use Rattle.run.specs.Verdicts.{refused, done, Narrow}
+use Rattle.run.specs.Verdicts.{done, Narrow}
 use Rattle.pich.specs.declared.Pi.{Pi}
 use Rattle.pich.specs.declared.Paging.{Paging}
 use Rattle.pich.specs.Rule.{isNp, width, frameOf, indicatorsIn, qOf}
@@ -60,10 +59,3 @@ pub record Packs : Type 0 where
   pub q-small : (np : ℕ) (pi : Pi) (sfn : ℕ) (answer : Paging) → Q np pi sfn answer → answer .q .0 < 65536
   pub map-narrow : (np : ℕ) (indicators : List ℕ) (frameLength : ℕ) → Narrow (mapVerdict np indicators frameLength)
   pub read-narrow : (np : ℕ) (frame : List ℕ) (indicatorsLength : ℕ) → Narrow (readVerdict np frame indicatorsLength)
-
--- P7 and P8 of document 01, and its other examples: 'SFN 4096 gives 11', 'Np 73 gives 8'
-pub record Marked : Type 0 where
-  pub p7 : (qVerdict 18 (record { 0 = 5 }) 1 ≡ done) × (qOf 18 5 1 ≡ 7)
-  pub p8 : (qVerdict 36 (record { 0 = 35 }) 4095 ≡ done) × (qOf 36 35 4095 ≡ 17)
-  pub sfn-4096 : qVerdict 18 (record { 0 = 5 }) 4096 ≡ refused rangeRefused 1
-  pub np-73 : (pi : Pi) (sfn : ℕ) → qVerdict 73 pi sfn ≡ refused npRefused 0

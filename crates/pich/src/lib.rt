@@ -1,18 +1,16 @@
-// The paging indicator channel: document 01, 'PICH'; TS 25.211, 5.3.3.10.
+// The paging indicator channel, q and the frame mapped: document 01, 'PICH'; TS 25.211, 5.3.3.10.
 use run::DTX;
 use run::Verdict;
+use run::found;
 use run::or_else;
 use run::refusal;
-use run::scan;
 use run::unless;
-use run::write;
 ghost use mathlib.Core.Path.{_≡_};
 ghost use mathlib.Core.Bool.{true};
-ghost use Prim.Native.Nat.{_*_, _<_, _^_};
+ghost use Prim.Native.Nat.{_*_, _/_, _<_, _≤_, _^_};
 ghost use lib.ListN.{length};
-ghost use Rattle.run.specs.First.{firstBad};
-ghost use Rattle.pich.specs.Rule.{isNp, frameOf, indicatorsIn, qOf};
-ghost use Rattle.pich.specs.Outcome.{qVerdict, Q, mapVerdict, Map, stands, readHead, readVerdict, Read};
+ghost use Rattle.pich.specs.Rule.{isNp, frameOf, qOf};
+ghost use Rattle.pich.specs.Outcome.{qVerdict, Q, mapVerdict, Map};
 
 // A PI as the higher layers compute it. It does not say where in the frame its indicator stands.
 pub struct Pi(pub usize);
@@ -52,12 +50,20 @@ fn q_verdict(np: usize, pi: Pi, sfn: usize) -> Verdict
     or_else(unless(is_np(np), refusal::NP, 0), range)
 }
 
-// The product comes before the floor: (.. mod 144)·Np, and then / 144.
+// x of 144 parts, counted in Np parts: the product comes before the floor.
+fn parts(x: usize, np: usize) -> usize
+    requires { ⌜ (x ≤ 144) × (np ≤ 144) ⌝ }
+    ensures { λ r. ⌜ r ≡ (x * np) / 144 ⌝ }
+{
+    x * np / 144
+}
+
 fn q_of(np: usize, pi: usize, sfn: usize) -> usize
     requires { ⌜ (isNp np ≡ true) × (pi < np) × (sfn < 4096) ⌝ }
     ensures { λ r. ⌜ r ≡ qOf np pi sfn ⌝ }
 {
-    (pi + 18 * (sfn + sfn / 8 + sfn / 64 + sfn / 512) % 144 * np / 144) % np
+    let x = 18 * (sfn + sfn / 8 + sfn / 64 + sfn / 512) % 144;
+    (pi + parts(x, np)) % np
 }
 
 // The paging indicator of a higher-layer PI in the frame of an SFN.
@@ -80,11 +86,14 @@ pub fn q(np: usize, pi: Pi, sfn: usize) -> Paging
 fn map_verdict(np: usize, indicators: &[u8], frame_length: usize) -> Verdict
     ensures { λ r. ⌜ r ≡ mapVerdict np (now (indicators .entry)) «frame_length» ⌝ }
 {
-    let n = indicators.len();
-    let i = scan::first_above(indicators, 1);
-    let digits = unless(n <= i, refusal::DIGIT, i);
+    let digits = found(
+        indicators,
+        scan::first_above(indicators, 1),
+        refusal::DIGIT,
+        0,
+    );
     let second = or_else(unless(frame_length == 300, refusal::LENGTH, 1), digits);
-    let lengths = or_else(unless(n == np, refusal::LENGTH, 0), second);
+    let lengths = or_else(unless(indicators.len() == np, refusal::LENGTH, 0), second);
     or_else(unless(is_np(np), refusal::NP, 0), lengths)
 }
 
@@ -113,72 +122,5 @@ pub fn map(np: usize, indicators: &[u8], frame: &mut [u8]) -> Verdict
         return verdict;
     }
     write_frame(np, indicators, frame);
-    verdict
-}
-
-// The first digit that may not stand in a frame: group by group, then the tail.
-fn first_misfit(np: usize, frame: &[u8]) -> usize
-    requires { ⌜ (isNp np ≡ true) × (length (now frame) ≡ 300) ⌝ }
-    ensures { λ r. ⌜ r ≡ firstBad (stands np (now (frame .entry))) 300 ⌝ }
-{
-    let width = 288 / np;
-    let mut q = 0;
-    while q < np {
-        let start = first_digit(width, Indicator(q));
-        let end = start + width;
-        let i = scan::first_unlike(&frame[start..end]);
-        if i < width {
-            return start + i;
-        }
-        q += 1;
-    }
-    288 + scan::first_other(&frame[288..300], DTX)
-}
-
-fn read_head(np: usize, frame: &[u8], indicators_length: usize) -> Verdict
-    ensures { λ r. ⌜ r ≡ readHead np (now (frame .entry)) «indicators_length» ⌝ }
-{
-    let n = frame.len();
-    let i = scan::first_above(frame, 2);
-    let digits = unless(n <= i, refusal::DIGIT, i);
-    let second = or_else(unless(indicators_length == np, refusal::LENGTH, 1), digits);
-    let lengths = or_else(unless(n == 300, refusal::LENGTH, 0), second);
-    or_else(unless(is_np(np), refusal::NP, 0), lengths)
-}
-
-fn read_verdict(np: usize, frame: &[u8], indicators_length: usize) -> Verdict
-    ensures { λ r. ⌜ r ≡ readVerdict np (now (frame .entry)) «indicators_length» ⌝ }
-{
-    let head = read_head(np, frame, indicators_length);
-    if head.number != 0 {
-        return head;
-    }
-    let k = first_misfit(np, frame);
-    unless(300 <= k, refusal::FRAME, k)
-}
-
-// Each indicator from the first of its digits.
-fn read_indicators(np: usize, frame: &[u8], indicators: &mut [u8])
-    requires { ⌜ (isNp np ≡ true) × (length (now frame) ≡ 300) × (length (now indicators) ≡ np) ⌝ }
-    ensures { λ _. ⌜ now (indicators .exit) ≡ indicatorsIn np (now (frame .entry)) ⌝ }
-{
-    let width = 288 / np;
-    let mut q = 0;
-    while q < np {
-        let start = first_digit(width, Indicator(q));
-        indicators[q] = frame[start];
-        q += 1;
-    }
-}
-
-// The indicators of a frame, or the refusal and the indicators as they were.
-pub fn read(np: usize, frame: &[u8], indicators: &mut [u8]) -> Verdict
-    ensures { λ r. ⌜ Read np (now (frame .entry)) (now (indicators .entry)) r (now (indicators .exit)) ⌝ }
-{
-    let verdict = read_verdict(np, frame, indicators.len());
-    if verdict.number != 0 {
-        return verdict;
-    }
-    read_indicators(np, frame, indicators);
     verdict
 }

@@ -2,14 +2,14 @@
 -- Assumes nothing.
 use mathlib.Core.Path.{_≡_, refl, sym, ap, _∙_}
 use mathlib.Core.Bool.{Bool, true, false, cond}
-use Prim.Native.Nat.{ℕ, zero, suc, _+_, _≤_, _<_, suc-le-suc}
+use Prim.Native.Nat.{ℕ, zero, suc, _+_, _<_, suc-le-suc}
 use native.Mathlib.Nat.{zero-add, not-suc-le-zero, le-of-suc-le-suc}
 use native.Mathlib.Omega.{arith}
-use borrow.Author.Tests.{eqb-true, eqb-false, leb-true, leb-false, le-leb, eq-eqb, ne-eqb}
+use borrow.Author.Tests.{eqb-true, eqb-false, leb-true, le-leb, eq-eqb, ne-eqb}
 use lib.Dec.{eqb, leb, lit<}
 use Rattle.run.specs.declared.Verdict.{Verdict}
 use Rattle.run.specs.First.{firstBad, Every}
-use Rattle.run.specs.Verdicts.{refused, done, orElse, unless, each, chain, leaves, Narrow}
+use Rattle.run.specs.Verdicts.{done, orElse, unless, each, chain, leaves, Narrow}
 use Rattle.run.proofs.First.{first-le, first-none, none-first}
 
 -- the chain is done: its first check is, and so are the others
@@ -24,6 +24,33 @@ or-else-cases v w false e h = absurd (eqb-false _ _ e h)
 pub or-else-done : (v w : Verdict) → orElse v w .number ≡ 0 → Both v w
 unfolding orElse
 or-else-done v w h = or-else-cases v w (eqb (v .number) 0) refl h
+
+-- .. and so in a chain of four checks, and of five
+pub record Four (a b c d : Verdict) : Type 0 where
+  pub first : a .number ≡ 0
+  pub second : b .number ≡ 0
+  pub third : c .number ≡ 0
+  pub fourth : d .number ≡ 0
+
+pub four-done : (a b c d : Verdict) → orElse a (orElse b (orElse c d)) .number ≡ 0 → Four a b c d
+four-done a b c d h =
+    let c1 = or-else-done _ _ h in
+    let c2 = or-else-done _ _ (c1 .rest) in
+    let c3 = or-else-done _ _ (c2 .rest) in
+    record { first = c1 .first; second = c2 .first; third = c3 .first; fourth = c3 .rest }
+
+pub record Five (a b c d e : Verdict) : Type 0 where
+  pub first : a .number ≡ 0
+  pub second : b .number ≡ 0
+  pub third : c .number ≡ 0
+  pub fourth : d .number ≡ 0
+  pub fifth : e .number ≡ 0
+
+pub five-done : (a b c d e : Verdict) → orElse a (orElse b (orElse c (orElse d e))) .number ≡ 0 → Five a b c d e
+five-done a b c d e h =
+    let c1 = or-else-done _ _ h in
+    let f = four-done _ _ _ _ (c1 .rest) in
+    record { first = c1 .first; second = f .first; third = f .second; fourth = f .third; fifth = f .fourth }
 
 pub unless-done : (ok : Bool) (number place : ℕ) → 0 < number → unless ok number place .number ≡ 0 → ok ≡ true
 unfolding unless

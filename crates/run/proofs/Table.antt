@@ -23,10 +23,6 @@ module _ {A : Type 0} where
   tab-at (suc n) f zero d h = refl
   tab-at (suc n) f (suc k) d h = tab-at n (λ (j : ℕ). f (suc j)) k d (le-of-suc-le-suc h)
 
-  -- a table's rule: one equation that the checker computes over the whole table gives the rule at each entry
-  pub table-rule : (xs : List A) (n : ℕ) (f : ℕ → A) → xs ≡ tab n f → (k : ℕ) (d : A) → k < n → getD xs k d ≡ f k
-  table-rule xs n f e k d h = ap (λ (l : List A). getD l k d) e ∙ tab-at n f k d h
-
   -- rules that agree at each of the n places have the same table
   pub tab-same : (n : ℕ) (f g : ℕ → A) → ((k : ℕ) → k < n → f k ≡ g k) → tab n f ≡ tab n g
   unfolding tab

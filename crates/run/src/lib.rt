@@ -1,14 +1,11 @@
-// Runs of digits: verdicts and their order, scans, copies. No channel's rule stands here.
+// Verdicts and their order, and what is said of runs of digits. No channel's rule stands here.
 ghost use mathlib.Core.Path.{_≡_};
-ghost use Prim.Native.Nat.{_+_};
+ghost use Prim.Native.Nat.{_+_, min};
 ghost use lib.Dec.{leb};
 ghost use lib.ListN.{length};
 ghost use Rattle.run.specs.Verdicts.{orElse, unless};
 
-pub mod range;
 pub mod refusal;
-pub mod scan;
-pub mod write;
 
 // DTX as a digit: nothing is sent (document 01, 'Digits').
 pub const DTX: u8 = 2;
@@ -54,4 +51,11 @@ pub fn found(s: &[u8], i: usize, number: usize, base: u32) -> Verdict
         number,
         place: base as usize + i,
     }
+}
+
+// The smaller of two lengths.
+pub fn shorter(a: usize, b: usize) -> usize
+    ensures { λ r. ⌜ r ≡ min a b ⌝ }
+{
+    if a <= b { a } else { b }
 }

@@ -1,7 +1,6 @@
 // Samples for a simulator: document 01, 'Samples'.
 use run::Verdict;
 use run::or_else;
-use run::range;
 use run::refusal;
 use run::unless;
 ghost use mathlib.Core.Path.{_≡_};

@@ -8,7 +8,7 @@ use borrow.Author.Tests.{eqb-true, leb-true, le-leb}
 use lib.ListN.{length}
 use Rattle.run.specs.First.{Every, atMost, likeFirst, agree}
 use Rattle.run.specs.Verdicts.{done}
-use Rattle.run.proofs.Chain.{or-else-done, unless-done, each-done, or-else-pass, unless-pass, each-pass}
+use Rattle.run.proofs.Chain.{four-done, five-done, or-else-done, unless-done, each-done, or-else-pass, unless-pass, each-pass}
 use Rattle.dpch.specs.declared.Format.{Format}
 use Rattle.dpch.specs.Formats.{formatOf, silenceAllowed}
 use Rattle.dpch.specs.Pilots.{pilotOf}
@@ -27,18 +27,15 @@ pub map-headed : (format slot dataLength tfciLength outLength : ℕ) → mapHead
     → Headed format slot dataLength tfciLength outLength
 unfolding mapHead
 map-headed format slot dataLength tfciLength outLength h =
-    let c1 = or-else-done _ _ h in
-    let c2 = or-else-done _ _ (c1 .rest) in
-    let c3 = or-else-done _ _ (c2 .rest) in
-    let c4 = or-else-done _ _ (c3 .rest) in
+    let c = five-done _ _ _ _ _ h in
     record {
-      format-ok = leb-true _ _ (unless-done _ 1 0 (omega arith) (c1 .first));
-      slot-ok = leb-true _ _ (unless-done _ 2 0 (omega arith) (c2 .first));
+      format-ok = leb-true _ _ (unless-done _ 1 0 (omega arith) (c .first));
+      slot-ok = leb-true _ _ (unless-done _ 2 0 (omega arith) (c .second));
       ready = record {
         sound = sound-format format;
-        data-ok = eqb-true _ _ (unless-done _ 3 0 (omega arith) (c3 .first));
-        tfci-ok = eqb-true _ _ (unless-done _ 3 1 (omega arith) (c4 .first));
-        slot-ok = eqb-true _ _ (unless-done _ 3 2 (omega arith) (c4 .rest));
+        data-ok = eqb-true _ _ (unless-done _ 3 0 (omega arith) (c .third));
+        tfci-ok = eqb-true _ _ (unless-done _ 3 1 (omega arith) (c .fourth));
+        slot-ok = eqb-true _ _ (unless-done _ 3 2 (omega arith) (c .fifth));
       };
     }
 
@@ -46,18 +43,15 @@ pub read-headed : (format slot slotLength dataLength tfciLength : ℕ) → readH
     → Headed format slot dataLength tfciLength slotLength
 unfolding readHead
 read-headed format slot slotLength dataLength tfciLength h =
-    let c1 = or-else-done _ _ h in
-    let c2 = or-else-done _ _ (c1 .rest) in
-    let c3 = or-else-done _ _ (c2 .rest) in
-    let c4 = or-else-done _ _ (c3 .rest) in
+    let c = five-done _ _ _ _ _ h in
     record {
-      format-ok = leb-true _ _ (unless-done _ 1 0 (omega arith) (c1 .first));
-      slot-ok = leb-true _ _ (unless-done _ 2 0 (omega arith) (c2 .first));
+      format-ok = leb-true _ _ (unless-done _ 1 0 (omega arith) (c .first));
+      slot-ok = leb-true _ _ (unless-done _ 2 0 (omega arith) (c .second));
       ready = record {
         sound = sound-format format;
-        data-ok = eqb-true _ _ (unless-done _ 3 1 (omega arith) (c4 .first));
-        tfci-ok = eqb-true _ _ (unless-done _ 3 2 (omega arith) (c4 .rest));
-        slot-ok = eqb-true _ _ (unless-done _ 3 0 (omega arith) (c3 .first));
+        data-ok = eqb-true _ _ (unless-done _ 3 1 (omega arith) (c .fourth));
+        tfci-ok = eqb-true _ _ (unless-done _ 3 2 (omega arith) (c .fifth));
+        slot-ok = eqb-true _ _ (unless-done _ 3 0 (omega arith) (c .third));
       };
     }
 
@@ -72,14 +66,12 @@ pub fields-ok : (format tpc : ℕ) (d tfci : List ℕ) (tpcPlace tfciBase dataBa
     → FieldsOk format tpc d tfci
 unfolding fieldsVerdict
 fields-ok format tpc d tfci tpcPlace tfciBase dataBase h =
-    let c1 = or-else-done _ _ h in
-    let c2 = or-else-done _ _ (c1 .rest) in
-    let c3 = or-else-done _ _ (c2 .rest) in
+    let c = four-done _ _ _ _ h in
     record {
-      tpc-ok = leb-true _ _ (unless-done _ 5 tpcPlace (omega arith) (c1 .first));
-      tfci-digits = each-done tfciBase 4 _ _ (omega arith) (c2 .first);
-      tfci-kinds = each-done tfciBase 6 _ _ (omega arith) (c3 .first);
-      data-digits = each-done dataBase 4 _ _ (omega arith) (c3 .rest);
+      tpc-ok = leb-true _ _ (unless-done _ 5 tpcPlace (omega arith) (c .first));
+      tfci-digits = each-done tfciBase 4 _ _ (omega arith) (c .second);
+      tfci-kinds = each-done tfciBase 6 _ _ (omega arith) (c .third);
+      data-digits = each-done dataBase 4 _ _ (omega arith) (c .fourth);
     }
 
 pub fields-pass : (format tpc : ℕ) (d tfci : List ℕ) (tpcPlace tfciBase dataBase : ℕ) → FieldsOk format tpc d tfci
@@ -101,14 +93,12 @@ pub record DigitsOk (format : ℕ) (f : Format) (slot : ℕ) (xs : List ℕ) : T
 pub digits-ok : (format : ℕ) (f : Format) (slot : ℕ) (xs : List ℕ) (base : ℕ) → digitsVerdict format f slot xs base .number ≡ 0 → DigitsOk format f slot xs
 unfolding digitsVerdict
 digits-ok format f slot xs base h =
-    let c1 = or-else-done _ _ h in
-    let c2 = or-else-done _ _ (c1 .rest) in
-    let c3 = or-else-done _ _ (c2 .rest) in
+    let c = four-done _ _ _ _ h in
     record {
-      digits = each-done base 4 _ _ (omega arith) (c1 .first);
-      alike = each-done _ 5 _ _ (omega arith) (c2 .first);
-      kinds = each-done _ 6 _ _ (omega arith) (c3 .first);
-      pilot = each-done _ 7 _ _ (omega arith) (c3 .rest);
+      digits = each-done base 4 _ _ (omega arith) (c .first);
+      alike = each-done _ 5 _ _ (omega arith) (c .second);
+      kinds = each-done _ 6 _ _ (omega arith) (c .third);
+      pilot = each-done _ 7 _ _ (omega arith) (c .fourth);
     }
 
 pub digits-pass : (format : ℕ) (f : Format) (slot : ℕ) (xs : List ℕ) (base : ℕ) → DigitsOk format f slot xs → digitsVerdict format f slot xs base ≡ done

@@ -2,8 +2,8 @@
 -- Assumes nothing.
 use mathlib.Core.Path.{_≡_, refl, sym, ap, _∙_, subst}
 use mathlib.Core.Bool.{Bool, true, false}
-use mathlib.Core.List.{List, [], _∷_, _++_}
-use Prim.Native.Nat.{ℕ, zero, suc, _+_, _≤_, _<_}
+use mathlib.Core.List.{List, []}
+use Prim.Native.Nat.{ℕ, _+_, _≤_, _<_}
 use native.Mathlib.Nat.{zero-add}
 use native.Mathlib.Omega.{arith}
 use borrow.Author.Tests.{leb-true, eqb-true, eqb-false, le-leb, eq-eqb, ne-eqb}
@@ -12,22 +12,21 @@ use lib.ListN.{length, getD, take, drop, replicate, take-append-drop, length-rep
 use lib.Seq.{take-at, drop-at, getD-take, getD-drop}
 use Rattle.run.specs.declared.Verdict.{Verdict}
 use Rattle.run.specs.Digits.{dtx}
-use Rattle.run.specs.First.{firstBad, Every, atMost, likeFirst, agree}
+use Rattle.run.specs.First.{Every, atMost, likeFirst}
 use Rattle.run.specs.Fields.{cut, joined, field, start}
-use Rattle.run.specs.Verdicts.{done, orElse, unless, each, leaves, Narrow}
+use Rattle.run.specs.Verdicts.{done, orElse, unless, leaves, Narrow}
 use Rattle.run.proofs.First.{no-diff, diff-none}
 use Rattle.run.proofs.Each.{each-take, each-drop, each-append, each-same, each-joined, all-first, first-no-dtx}
-use Rattle.run.proofs.Chain.{or-else-pass, unless-pass, each-pass, or-else-narrow, unless-narrow, check-narrow, each-narrow, leaves-done, leaves-refused, one-outcome}
+use Rattle.run.proofs.Chain.{or-else-pass, unless-pass, or-else-narrow, unless-narrow, check-narrow, each-narrow, leaves-done, leaves-refused, one-outcome}
 use Rattle.run.proofs.Fields.{joined-cut, cut-joined, field-at, field-is, field-room}
 use Rattle.dpch.specs.declared.Format.{Format}
-use Rattle.dpch.specs.Formats.{formats, formatOf, widths, silenceAllowed}
-use Rattle.dpch.specs.Pilots.{symbols1, symbols3, symbols5, symbols7, symbolsOf, symbolsFor, pilotOf}
+use Rattle.dpch.specs.Formats.{formatOf, widths}
+use Rattle.dpch.specs.Pilots.{pilotOf}
 use Rattle.dpch.proofs.Exact.{format-sizes, format-pilots}
-use Rattle.slot.specs.declared.Command.{Command}
-use Rattle.slot.specs.Rule.{dataSize, fieldsOf, slotOf, tpcIn, tfciIn, pilotIn, dataIn, commandIn, tfciStands}
-use Rattle.slot.specs.Outcome.{mapHead, fieldsVerdict, mapVerdict, Map, readHead, digitsVerdict, readVerdict, Read}
-use Rattle.slot.specs.Ready.{Sound, Whole, Ready}
-use Rattle.slot.specs.Exact.{Gives, Fields, Exact, ReadExact, Cuts, SlotCuts, Placed, SlotPlaced, MapOnce, ReadOnce, Packs, Marked}
+use Rattle.slot.specs.Rule.{dataSize, fieldsOf, slotOf, tpcIn, tfciIn, pilotIn, dataIn, commandIn}
+use Rattle.slot.specs.Outcome.{mapHead, fieldsVerdict, mapVerdict, readHead, digitsVerdict, readVerdict}
+use Rattle.slot.specs.Ready.{Sound, Whole}
+use Rattle.slot.specs.Exact.{Gives, Fields, ReadExact, SlotCuts, SlotPlaced, MapOnce, ReadOnce, Packs}
 use Rattle.slot.proofs.Laws.{sound-format, start-data1, start-tpc, start-tfci, start-data2, start-pilot, fields-widths, field-of, slot-length, field-long, data-length, data-small}
 use Rattle.slot.proofs.Accept.{fields-pass, DigitsOk, digits-pass, Mapped, mapped, accepted, map-headed, read-headed}
 
@@ -337,14 +336,4 @@ packs =
       map-narrow = map-narrow;
       read-narrow = read-narrow;
       command-small = λ format slot xs d tfci answer x t p. rw (p .command-is) (command-fits format slot xs (length d) (length tfci));
-    }
-
-pub marked : Marked
-unfolding formats formatOf slotOf fieldsOf joined pilotOf symbolsFor symbolsOf symbols1 symbols3 symbols5 symbols7 mapVerdict mapHead fieldsVerdict tfciStands firstBad each orElse unless
-marked =
-    record {
-      p1 = record { taken = refl; written = refl };
-      p2 = record { taken = refl; written = refl };
-      p3 = λ slot tpc d tfci n. refl;
-      p4 = λ tpc d tfci n. refl;
     }

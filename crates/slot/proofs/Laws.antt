@@ -2,7 +2,7 @@
 -- Assumes nothing.
 use mathlib.Core.Path.{_≡_, refl, sym, ap, _∙_}
 use mathlib.Core.Bool.{Bool, true, false, not, _&&_, _||_, Bool·beq}
-use mathlib.Core.List.{List, [], _∷_, _++_, map}
+use mathlib.Core.List.{List, [], map}
 use Prim.Native.Nat.{ℕ, _+_, _-_, _≤_, _<_, min}
 use native.Mathlib.Nat.{not-suc-le-zero, add-zero}
 use native.Mathlib.Omega.{arith}
@@ -15,20 +15,20 @@ use Rattle.run.specs.declared.Verdict.{Verdict}
 use Rattle.run.specs.Digits.{dtx}
 use Rattle.run.specs.First.{firstBad, agree, isAt, notAt}
 use Rattle.run.specs.Verdicts.{unless, each}
-use Rattle.run.specs.Fields.{total, cut, joined, field, start}
+use Rattle.run.specs.Fields.{total, field, start}
 use Rattle.run.specs.Written.{over}
 use Rattle.run.proofs.First.{first-is, first-same}
 use Rattle.run.proofs.Chain.{each-is, or-else-next, unless-pass}
-use Rattle.run.proofs.Fields.{joined-length, cut-joined, field-is, field-lent, field-joined, field-length, field-at}
+use Rattle.run.proofs.Fields.{joined-length, field-is, field-lent, field-joined, field-length, field-at}
 use Rattle.run.proofs.Over.{over-whole}
-use Rattle.run.proofs.Front.{Front, front-none, front-fill, front-copy, front-part, front-lent, front-all}
+use Rattle.run.proofs.Front.{Front, front-none, front-fill, front-copy, front-lent, front-all}
 use Rattle.dpch.specs.declared.Format.{Format}
 use Rattle.dpch.specs.Formats.{formatOf, widths}
 use Rattle.dpch.specs.Pilots.{pilotSource, pilotOf}
 use Rattle.dpch.proofs.Exact.{fields-fill, format-sizes, format-pilots}
 use Rattle.slot.specs.Rule.{dataSize, fieldsOf, slotOf, tfciIn, pilotIn, dataIn, commandIn, tfciStands}
 use Rattle.slot.specs.Outcome.{digitsVerdict, partVerdict}
-use Rattle.slot.specs.Ready.{PilotCut, Sound, Whole, Ready}
+use Rattle.slot.specs.Ready.{Sound, Whole}
 
 -- every row of the table is sound
 pub sound-format : (format : ℕ) → Sound (formatOf format)

@@ -2,12 +2,12 @@
 -- Assumes nothing.
 use Prim.Native.Nat.{ℕ, _+_, _<_, _≤_}
 use mathlib.Core.Path.{_≡_}
-use mathlib.Core.List.{List, [], _∷_}
+use mathlib.Core.List.{List}
 use mathlib.Core.Logic.{_↔_}
 use lib.ListN.{length, getD}
 use Rattle.run.specs.declared.Verdict.{Verdict}
-use Rattle.run.specs.Fields.{cut, joined, start}
-use Rattle.run.specs.Verdicts.{refused, done, Narrow}
+use Rattle.run.specs.Fields.{cut, joined}
+use Rattle.run.specs.Verdicts.{done, Narrow}
 use Rattle.dpch.specs.Formats.{formatOf, widths}
 use Rattle.dpch.specs.Pilots.{pilotOf}
 use Rattle.slot.specs.declared.Command.{Command}
@@ -76,10 +76,3 @@ pub record Packs : Type 0 where
   pub map-narrow : (format slot tpc : ℕ) (d tfci : List ℕ) (outLength : ℕ) → Narrow (mapVerdict format slot tpc d tfci outLength)
   pub read-narrow : (format slot : ℕ) (xs : List ℕ) (dataLength tfciLength : ℕ) → Narrow (readVerdict format slot xs dataLength tfciLength)
   pub command-small : (format slot : ℕ) (xs d tfci : List ℕ) (answer : Command) (x t : List ℕ) → Read format slot xs d tfci answer x t → answer .tpc < 65536
-
--- P1 to P4 of document 01
-pub record Marked : Type 0 where
-  pub p1 : Gives 0 0 0 (1 ∷ 0 ∷ 1 ∷ 0 ∷ []) [] (0 ∷ 0 ∷ 1 ∷ 0 ∷ 1 ∷ 0 ∷ 1 ∷ 1 ∷ 1 ∷ 1 ∷ [])
-  pub p2 : Gives 1 1 1 (1 ∷ 0 ∷ []) (0 ∷ 1 ∷ []) (1 ∷ 1 ∷ 0 ∷ 1 ∷ 1 ∷ 0 ∷ 1 ∷ 1 ∷ 0 ∷ 0 ∷ [])
-  pub p3 : (slot tpc : ℕ) (d tfci : List ℕ) (outLength : ℕ) → mapVerdict 17 slot tpc d tfci outLength ≡ refused 1 0
-  pub p4 : (tpc : ℕ) (d tfci : List ℕ) (outLength : ℕ) → mapVerdict 0 15 tpc d tfci outLength ≡ refused 2 0

@@ -1,6 +1,6 @@
 -- What the private writers and readers of fields ask of their callers. No public call asks anything.
 -- Assumes nothing.
-use Prim.Native.Nat.{ℕ, _<_, _≤_}
+use Prim.Native.Nat.{ℕ, _≤_}
 use mathlib.Core.Path.{_≡_}
 use lib.ListN.{length, take}
 use Rattle.run.specs.Fields.{total}

@@ -1,9 +1,8 @@
 // The fields of a slot: each is written into its own stretch of the slot.
 use dpch::Format;
 use run::DTX;
-use run::scan;
-use run::write::copy;
-use run::write::fill;
+use write::copy;
+use write::fill;
 ghost use mathlib.Core.Path.{_≡_};
 ghost use lib.ListN.{length};
 ghost use Rattle.run.specs.First.{firstBad};

@@ -3,7 +3,6 @@ use run::Verdict;
 use run::found;
 use run::or_else;
 use run::refusal;
-use run::scan;
 use run::unless;
 ghost use mathlib.Core.Path.{_≡_};
 ghost use Rattle.slot.specs.Outcome.{mapHead, fieldsVerdict, mapVerdict, Map, Put};

@@ -5,15 +5,15 @@ use run::Verdict;
 
 // The line of the refusal that ends the run.
 fn tell(refused: Verdict) {
-    let mut line = [0u8; job::LINE];
-    let told = job::tell(refused, &mut line);
+    let mut line = [0u8; lines::LINE];
+    let told = lines::tell(refused, &mut line);
     let n = told.length;
     io::write_all(STDOUT_FILENO, &line[..n]);
 }
 
 // The lines of `count` records from offset `first` on, up to the first refusal, and what follows the last.
 fn records(file: &[u8], count: usize, first: usize) {
-    let mut line = [0u8; job::LINE];
+    let mut line = [0u8; lines::LINE];
     let mut at = first;
     let mut left = count;
     while left > 0 {
@@ -35,7 +35,7 @@ fn records(file: &[u8], count: usize, first: usize) {
 }
 
 fn print(file: &[u8]) {
-    let mut line = [0u8; job::LINE];
+    let mut line = [0u8; lines::LINE];
     let opened = job::open(file, &mut line);
     let verdict = opened.verdict;
     if verdict.number != 0 {

@@ -25,5 +25,5 @@ pub extern "C" fn slt_frame_read(
 ) -> u64
     ensures { λ r. ⌜ FrameRead format (now (frame .entry)) (now («data» .entry)) (now (tfci .entry)) (now (commands .entry)) r (now («data» .exit)) (now (tfci .exit)) (now (commands .exit)) ⌝ }
 {
-    pack(frame::read(format, frame, data, tfci, commands), 0)
+    pack(frame_read::read(format, frame, data, tfci, commands), 0)
 }

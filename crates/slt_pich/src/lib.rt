@@ -1,4 +1,4 @@
-// PICH for a C host: each call is that of the crate `pich`, with the answer packed in one number (docs/INTERFACE.md).
+// PICH for a C host: each call is that of the crates `pich` and `pich_read`, with the answer packed in one number (docs/INTERFACE.md).
 use packed::pack;
 use pich::Pi;
 ghost use Rattle.slt_pich.specs.Outcome.{PichQ, PichMap, PichRead};
@@ -24,5 +24,5 @@ pub extern "C" fn slt_pich_map(np: usize, indicators: &[u8], frame: &mut [u8]) -
 pub extern "C" fn slt_pich_read(np: usize, frame: &[u8], indicators: &mut [u8]) -> u64
     ensures { λ r. ⌜ PichRead np (now (frame .entry)) (now (indicators .entry)) r (now (indicators .exit)) ⌝ }
 {
-    pack(pich::read(np, frame, indicators), 0)
+    pack(pich_read::read(np, frame, indicators), 0)
 }

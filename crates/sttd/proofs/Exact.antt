@@ -8,12 +8,11 @@ use borrow.Author.Tests.{eqb-true}
 use lib.Dec.{lit<}
 use lib.IntN.{ℤ, negℤ-negℤ}
 use lib.ListN.{length}
-use Rattle.run.specs.First.{firstBad}
-use Rattle.run.specs.Verdicts.{orElse, unless, each, Narrow}
+use Rattle.run.specs.Verdicts.{Narrow}
 use Rattle.run.proofs.Chain.{check-narrow, each-narrow, one-outcome}
-use Rattle.sttd.specs.Rule.{sttd, barDigit}
+use Rattle.sttd.specs.Rule.{sttd}
 use Rattle.sttd.specs.Outcome.{digitsVerdict, valuesVerdict}
-use Rattle.sttd.specs.Exact.{readBack, Involutive, RuleLaws, BothBars, DigitsOnce, ValuesOnce, Packs, Marked}
+use Rattle.sttd.specs.Exact.{readBack, Involutive, RuleLaws, BothBars, DigitsOnce, ValuesOnce, Packs}
 use Rattle.sttd.proofs.Bars.{bar-twice}
 use Rattle.sttd.proofs.Laws.{sttd-length, block, tail-kept}
 
@@ -64,7 +63,3 @@ values-narrow input outLength =
 
 pub packs : Packs
 packs = record { digits-narrow = digits-narrow; values-narrow = values-narrow }
-
-pub marked : Marked
-unfolding sttd barDigit digitsVerdict firstBad each orElse unless
-marked = record { p5 = (refl, refl); p6 = (refl, refl) }

@@ -1,12 +1,12 @@
 -- Laws of the STTD rule, for any element type and any bar.
 -- Assumes nothing.
 use mathlib.Core.Path.{_≡_, refl, sym, ap, _∙_, subst}
-use mathlib.Core.List.{List, [], _∷_, _++_}
+use mathlib.Core.List.{List, [], _∷_}
 use Prim.Native.Nat.{ℕ, zero, suc, _+_, _*_, _/_, _%_, _≤_, _<_}
 use native.Mathlib.Nat.{not-suc-le-zero, add-zero}
 use native.Mathlib.Omega.{arith}
-use lib.ListN.{length, getD, take, drop, take-append-drop, length-drop}
-use lib.Seq.{take-at, drop-at, getD-drop}
+use lib.ListN.{length, getD, take, drop, length-drop}
+use lib.Seq.{getD-drop}
 use Rattle.sttd.specs.Rule.{sttd}
 use Rattle.sttd.specs.Exact.{Block}
 
@@ -59,18 +59,6 @@ module _ {A : Type 0} (bar : A → A) where
   pub sttd-drop : (k : ℕ) (s : List A) → sttd bar (drop (4 * k) s) ≡ drop (4 * k) (sttd bar s)
   sttd-drop zero s = refl
   sttd-drop (suc k) s = rw (more k) (next-drop (4 * k) (sttd-drop k) s)
-
-  -- a stretch of whole blocks
-  pub sttd-stretch : (s : List A) (a w : ℕ) → a % 4 ≡ 0 → w % 4 ≡ 0 → sttd bar (take w (drop a s)) ≡ take w (drop a (sttd bar s))
-  sttd-stretch s a w p q =
-      let from : 4 * (a / 4) ≡ a = omega arith in
-      let long : 4 * (w / 4) ≡ w = omega arith in
-      rw (← from, ← long) (sttd-take (w / 4) (drop (4 * (a / 4)) s) ∙ ap (take (4 * (w / 4))) (sttd-drop (a / 4) s))
-
-  pub sttd-append : (k : ℕ) (s t : List A) → length s ≡ 4 * k → sttd bar (s ++ t) ≡ sttd bar s ++ sttd bar t
-  sttd-append k s t e =
-      sym (take-append-drop (4 * k) (sttd bar (s ++ t)))
-      ∙ rw (← sttd-take k (s ++ t), ← sttd-drop k (s ++ t), take-at s t (4 * k) e, drop-at s t (4 * k) e)
 
   -- what is left behind the last whole block stays as it is
   pub tail-kept : (s : List A) (k : ℕ) → length s < 4 * k + 4 → drop (4 * k) (sttd bar s) ≡ drop (4 * k) s

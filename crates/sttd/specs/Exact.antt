@@ -7,7 +7,7 @@ use mathlib.Core.List.{List, [], _∷_}
 use lib.ListN.{length, getD, drop}
 use lib.IntN.{ℤ, negℤ}
 use Rattle.run.specs.declared.Verdict.{Verdict}
-use Rattle.run.specs.Verdicts.{done, Narrow}
+use Rattle.run.specs.Verdicts.{Narrow}
 use Rattle.sttd.specs.Rule.{sttd, barDigit}
 use Rattle.sttd.specs.Outcome.{digitsVerdict, Digits, valuesVerdict, Values}
 
@@ -60,8 +60,3 @@ ValuesOnce =
 pub record Packs : Type 0 where
   pub digits-narrow : (input : List ℕ) (outLength : ℕ) → length input ≤ 4294967295 → Narrow (digitsVerdict input outLength)
   pub values-narrow : (input : List ℤ) (outLength : ℕ) → Narrow (valuesVerdict input outLength)
-
--- P5 and P6 of document 01: 'STTD 0001: 1101', 'STTD 1202: 1212'
-pub record Marked : Type 0 where
-  pub p5 : (digitsVerdict (0 ∷ 0 ∷ 0 ∷ 1 ∷ []) 4 ≡ done) × (sttd barDigit (0 ∷ 0 ∷ 0 ∷ 1 ∷ []) ≡ 1 ∷ 1 ∷ 0 ∷ 1 ∷ [])
-  pub p6 : (digitsVerdict (1 ∷ 2 ∷ 0 ∷ 2 ∷ []) 4 ≡ done) × (sttd barDigit (1 ∷ 2 ∷ 0 ∷ 2 ∷ []) ≡ 1 ∷ 2 ∷ 1 ∷ 2 ∷ [])

@@ -1,9 +1,7 @@
 // Space time block coding for two antennas: document 01, 'STTD'; TS 25.211, 5.3.1.1.1.
 use run::Verdict;
 use run::or_else;
-use run::range;
 use run::refusal;
-use run::scan;
 use run::unless;
 ghost use mathlib.Core.Path.{_≡_};
 ghost use mathlib.Core.Bool.{true};
@@ -24,7 +22,7 @@ fn bar(d: u8) -> u8
 pub fn encode(input: &[u8], out: &mut [u8])
     ensures { λ _. ⌜ now (out .exit) ≡ encodedOver (now (input .entry)) (now (out .entry)) ⌝ }
 {
-    let n = scan::shorter(input.len(), out.len());
+    let n = run::shorter(input.len(), out.len());
     let end = 4 * (n / 4);
     let mut i = 0;
     while i < end {

@@ -1,10 +1,11 @@
 -- `dpch::format_of` meets its contract: at each number of the match the table's row, and past the table the row of zeros.
 -- Assumes nothing.
-use mathlib.Core.Path.{_≡_, sym}
-use Prim.Native.Nat.{ℕ, suc, _≤_}
+use mathlib.Core.Path.{sym}
+use Prim.Native.Nat.{_≤_}
 use native.Mathlib.Omega.{arith}
 use lib.ListN.{List·getD-eq-default}
 use Rattle.dpch.specs.Formats.{formats, formatOf}
+use Rattle.dpch.proofs.Past.{climb}
 use Rattle.dpch.proofs.format_of.Statement.{statement}
 use Rattle.dpch.proofs.format_of.Tie as tie
 
@@ -75,10 +76,6 @@ returns-16 c = rw (c .match .keys16)
 returns-17 : tie.Need-returns-17
 unfolding formatOf formats
 returns-17 c = rw (c .match .keys17)
-
--- a number that is at least k and not k is above k
-climb : (k n : ℕ) → k ≤ n → (n ≡ k → ⊥) → suc k ≤ n
-climb k n h e = omega arith
 
 returns-18 : tie.Need-returns-18
 unfolding formatOf formats

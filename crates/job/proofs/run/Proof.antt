@@ -1,9 +1,8 @@
 -- `job::run` meets its contract.
 -- Assumes nothing.
-use Rattle.job.proofs.Headed.{headed, part-is, part-whole, run-head-refused, run-refused, run-done}
-use Rattle.run.proofs.Chain.{or-else-done}
 use native.Mathlib.Omega.{arith}
-use Rattle.job.proofs.Checks.{room-first}
+use denote.Ref.{now}
+use Rattle.job.proofs.Headed.{part-is, run-refused, run-headed, run-told}
 use borrow.Author.Needs.{needs}
 use Rattle.job.proofs.run.Statement.{statement}
 use Rattle.job.proofs.run.Tie as tie
@@ -12,76 +11,40 @@ run-head-requires : tie.Need-run-head-requires
 run-head-requires c κs = search needs
 
 returns : tie.Need-returns
-returns c =
+returns c = run-refused _ _ _ (c .before .before .run-head .ensures) (c .if1 .taken)
+
+end-of-requires : tie.Need-end-of-requires
+end-of-requires c κs =
     let start = c .before .before .before .before .before in
-    let e = c .before .before .run-head .ensures in
-    run-head-refused _ _ _ e (c .if1 .taken)
-
-byte-at-requires : tie.Need-byte-at-requires
-byte-at-requires c κs = search needs
-
-add-byte-at : tie.Need-add-byte-at
-add-byte-at c =
-    let start = c .before .before .before .before .before .before in
-    let e = c .before .before .before .run-head .ensures in
-    let h = headed _ _ (or-else-done _ _ (rw e at (c .before .if1 .left)) .rest) in
-    omega (arith, h .there)
-
-byte-at-requires-2 : tie.Need-byte-at-requires-2
-byte-at-requires-2 c κs = search needs
-
-size-of-requires : tie.Need-size-of-requires
-size-of-requires c κs = c .byte-at2 .ensures .1
-
-add-end : tie.Need-add-end
-add-end c =
-    let start = c .before .before .before .before .before .before .before .before in
-    let e = c .before .before .before .before .before .run-head .ensures in
-    let h = headed _ _ (or-else-done _ _ (rw e at (c .before .before .before .if1 .left)) .rest) in
-    let size = rw (c .before .before .byte-at .ensures .0, c .before .byte-at2 .ensures .0) at (c .size-of .ensures) in
-    rw size (omega (arith, h .inside))
+    run-headed (now (start .args .file)) (now (start .args .line)) (start .args .at) (c .before .before .run-head .ensures) (c .if1 .left) .there
 
 sub-record : tie.Need-sub-record
-sub-record c = search needs
+sub-record c = omega (arith, c .end-of .ensures)
 
 part-record-start : tie.Need-part-record-start
-part-record-start c = search needs
+part-record-start c = omega (arith, c .end-of .ensures)
 
 part-record-end : tie.Need-part-record-end
 part-record-end c =
-    let start = c .before .before .before .before .before .before .before .before in
-    let e = c .before .before .before .before .before .run-head .ensures in
-    let h = headed _ _ (or-else-done _ _ (rw e at (c .before .before .before .if1 .left)) .rest) in
-    let size = rw (c .before .before .byte-at .ensures .0, c .before .byte-at2 .ensures .0) at (c .size-of .ensures) in
-    omega (arith, size, h .inside)
+    let start = c .before .before .before .before .before .before in
+    let h = run-headed (now (start .args .file)) (now (start .args .line)) (start .args .at) (c .before .before .before .run-head .ensures) (c .before .if1 .left) in
+    omega (arith, c .end-of .ensures, h .inside)
 
 record-requires : tie.Need-record-requires
-record-requires c κs =
-    let start = c .before .before .before .before .before .before .before .before .before .before in
-    let e = c .before .before .before .before .before .before .before .run-head .ensures in
-    let h = headed _ _ (or-else-done _ _ (rw e at (c .before .before .before .before .before .if1 .left)) .rest) in
-    let size = rw (c .before .before .before .before .byte-at .ensures .0, c .before .before .before .byte-at2 .ensures .0) at (c .before .before .size-of .ensures) in
-    (part-whole _ _ _ size h, room-first _ _ _ (rw e at (c .before .before .before .before .before .if1 .left)))
+record-requires c κs = search needs
+
+answer-requires : tie.Need-answer-requires
+answer-requires c κs = search needs
 
 same-length : tie.Need-same-length
 same-length c = search needs
 
 returns-2 : tie.Need-returns-2
 returns-2 c =
-    let start = c .before .before .before .before .before .before .before .before .before .before .before .before .before .before .before .before in
-    let e = c .before .before .before .before .before .before .before .before .before .before .before .before .before .run-head .ensures in
-    let size = rw (c .before .before .before .before .before .before .before .before .before .before .byte-at .ensures .0, c .before .before .before .before .before .before .before .before .before .byte-at2 .ensures .0) at (c .before .before .before .before .before .before .before .before .size-of .ensures) in
-    run-refused _ _ _ e (c .before .before .before .before .before .before .before .before .before .before .before .if1 .left) (rw (part-is _ _ _ size) at (c .before .before .before .before .before .«record» .ensures)) (c .if2 .taken)
-
-same-length-2 : tie.Need-same-length-2
-same-length-2 c = search needs
-
-returns-3 : tie.Need-returns-3
-returns-3 c =
-    let start = c .before .before .before .before .before .before .before .before .before .before .before .before .before .before .before .before in
-    let e = c .before .before .before .before .before .before .before .before .before .before .before .before .before .run-head .ensures in
-    let size = rw (c .before .before .before .before .before .before .before .before .before .before .byte-at .ensures .0, c .before .before .before .before .before .before .before .before .before .byte-at2 .ensures .0) at (c .before .before .before .before .before .before .before .before .size-of .ensures) in
-    run-done _ _ _ _ size e (c .before .before .before .before .before .before .before .before .before .before .before .if1 .left) (rw (part-is _ _ _ size) at (c .before .before .before .before .before .«record» .ensures)) (c .if2 .left)
+    let head = c .before .before .before .before .before .before .before .before .before .run-head .ensures in
+    let ok = c .before .before .before .before .before .before .before .if1 .left in
+    let end = c .before .before .before .before .before .before .end-of .ensures in
+    run-told _ _ _ head ok end (rw (part-is _ _ end) at (c .before .before .before .«record» .ensures)) (c .answer .ensures)
 
 pub run-spec : {M : Type 1} → statement M
 run-spec =
@@ -89,16 +52,11 @@ run-spec =
     (tie.spec
     run-head-requires
     returns
-    byte-at-requires
-    add-byte-at
-    byte-at-requires-2
-    size-of-requires
-    add-end
+    end-of-requires
     sub-record
     part-record-start
     part-record-end
     record-requires
+    answer-requires
     same-length
-    returns-2
-    same-length-2
-    returns-3)
+    returns-2)

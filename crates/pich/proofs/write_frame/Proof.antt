@@ -1,13 +1,11 @@
 -- `pich::write_frame` meets its contract: each turn writes one indicator's stretch from the front on, and the tail is the last part.
 -- Assumes nothing.
-use mathlib.Core.Path.{_≡_, refl, sym, ap, _∙_}
-use Prim.Native.Nat.{ℕ, _+_, _*_, _-_, _≤_, _<_}
+use mathlib.Core.Path.{_≡_, sym, _∙_}
+use Prim.Native.Nat.{_+_, _*_, _-_, _≤_}
 use native.Mathlib.Nat.{mul-zero}
 use native.Mathlib.Omega.{arith}
 use borrow.Author.Needs.{needs}
-use denote.Ref.{now}
-use lib.ListN.{length}
-use Rattle.run.proofs.Front.{Front, front-none, front-length, front-part, front-all}
+use Rattle.run.proofs.Front.{Front, front-none, front-length}
 use Rattle.pich.specs.Rule.{frameOf, width}
 use Rattle.pich.proofs.Laws.{groups, frame-length, one-more, tail-last}
 use Rattle.pich.proofs.write_frame.Statement.{statement}

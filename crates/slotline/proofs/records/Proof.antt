@@ -4,7 +4,7 @@ use mathlib.Core.Path.{_≡_, refl, sym}
 use native.Mathlib.Omega.{arith}
 use lib.ListN.{length}
 use lib.Seq.{length-take-le}
-use Rattle.job.proofs.Records.{prints-fit}
+use Rattle.lines.proofs.Records.{prints-fit}
 use Rattle.slotline.proofs.records.Statement.{statement}
 use Rattle.slotline.proofs.records.Tie as tie
 

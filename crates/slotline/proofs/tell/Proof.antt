@@ -2,7 +2,7 @@
 -- Assumes nothing.
 use mathlib.Core.Path.{sym}
 use lib.Seq.{length-take-le}
-use Rattle.job.proofs.Records.{prints-fit}
+use Rattle.lines.proofs.Records.{prints-fit}
 use borrow.Author.Needs.{needs}
 use Rattle.slotline.proofs.tell.Statement.{statement}
 use Rattle.slotline.proofs.tell.Tie as tie

@@ -5,8 +5,21 @@ use second::fields::lengths_of;
 use second::random::Random;
 use second::rules::job::{LONGEST, MARK_AND_VERSION};
 
-#[derive(Clone, Copy, Debug, PartialEq, Eq)]
-enum Fault {
+/// The faults, and the list of them all.
+macro_rules! faults {
+    ($($name:ident),* $(,)?) => {
+        #[derive(Clone, Copy, Debug, PartialEq, Eq)]
+        enum Fault {
+            $($name),*
+        }
+
+        use Fault::*;
+
+        const FAULTS: &[Fault] = &[$($name),*];
+    };
+}
+
+faults! {
     OverLong,
     HeaderByte,
     MissingByte,
@@ -23,26 +36,6 @@ enum Fault {
     PichDigit,
     ByteAfter,
 }
-
-use Fault::*;
-
-const FAULTS: [Fault; 15] = [
-    OverLong,
-    HeaderByte,
-    MissingByte,
-    UnknownKind,
-    BadFormat,
-    BadNp,
-    Short,
-    BadSlot,
-    BadCommand,
-    TfciDigit,
-    TfciRule,
-    DataDigit,
-    AichByte,
-    PichDigit,
-    ByteAfter,
-];
 
 /// Where a fault can be.
 #[derive(Clone, Copy, PartialEq, Eq)]
@@ -168,8 +161,8 @@ fn shared_home(first: Fault, second: Fault) -> Option<Home> {
 pub fn together() -> Vec<Job> {
     let mut random = Random::new(500);
     let mut jobs = Vec::new();
-    for (place, first) in FAULTS.into_iter().enumerate() {
-        for second in FAULTS.into_iter().skip(place + 1) {
+    for (place, first) in FAULTS.iter().copied().enumerate() {
+        for second in FAULTS.iter().copied().skip(place + 1) {
             if let Some(home) = shared_home(first, second) {
                 let records = vec![good_dpch(&mut random), record_for(&mut random, home), aich(&mut random)];
                 let mut draft = Draft::new(records);
@@ -186,7 +179,7 @@ pub fn together() -> Vec<Job> {
 pub fn apart() -> Vec<Job> {
     let mut random = Random::new(501);
     let mut jobs = Vec::new();
-    let of_records = || FAULTS.into_iter().filter(|fault| fault.home() != Home::File);
+    let of_records = || FAULTS.iter().copied().filter(|fault| fault.home() != Home::File);
     for first in of_records().filter(|fault| !fault.ends_the_file()) {
         for second in of_records() {
             let mut draft = Draft::new(vec![
@@ -229,8 +222,8 @@ mod tests {
     #[test]
     fn every_two_faults_are_tried() {
         let tried: Vec<String> = together().into_iter().chain(apart()).map(|job| job.what).collect();
-        for (place, first) in FAULTS.into_iter().enumerate() {
-            for second in FAULTS.into_iter().skip(place + 1) {
+        for (place, first) in FAULTS.iter().copied().enumerate() {
+            for second in FAULTS.iter().copied().skip(place + 1) {
                 // A file cannot end in two places, nor end early and have a byte after its end.
                 let impossible = first.ends_the_file() && (second.ends_the_file() || second == ByteAfter);
                 let names = [

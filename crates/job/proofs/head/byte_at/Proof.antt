@@ -1,6 +1,6 @@
 -- `job::head::byte_at` meets its contract: past the end a list reads as 0.
 -- Assumes nothing.
-use mathlib.Core.Path.{refl, sym}
+use mathlib.Core.Path.{sym}
 use native.Mathlib.Omega.{arith}
 use denote.Ref.{now}
 use lib.ListN.{List·getD-eq-default}
@@ -11,14 +11,11 @@ use Rattle.job.proofs.head.byte_at.Tie as tie
 shared-slice-read-result : tie.Need-shared-slice-read-result
 shared-slice-read-result c = search needs
 
-cast-result : tie.Need-cast-result
-cast-result c = omega (arith, c .shared-slice-known .given (c .before .before .args .at))
-
 returns : tie.Need-returns
-returns c = (refl, omega (arith, c .shared-slice-known .given (c .before .before .args .at)))
+returns c = search needs
 
 returns-2 : tie.Need-returns-2
-returns-2 c = (sym (List·getD-eq-default (now (c .before .args .file)) 0 {n = c .before .args .at} (omega arith)), omega arith)
+returns-2 c = sym (List·getD-eq-default (now (c .before .args .file)) 0 {n = c .before .args .at} (omega arith))
 
 pub byte-at-spec : {M : Type 1} → statement M
-byte-at-spec = tie.close (tie.spec shared-slice-read-result cast-result returns returns-2)
+byte-at-spec = tie.close (tie.spec shared-slice-read-result returns returns-2)

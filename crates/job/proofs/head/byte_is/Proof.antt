@@ -23,7 +23,7 @@ returns c =
     rw (
       c .or-else .ensures,
       c .before .check .ensures,
-      c .before .before .byte-at .ensures .0,
+      c .before .before .byte-at .ensures,
       c .before .before .before .present .ensures,
     )
 

@@ -2,7 +2,8 @@
 -- Assumes nothing.
 use mathlib.Core.Path.{_∙_}
 use Rattle.job.specs.Outcome.{recordHead}
-use Rattle.job.proofs.Checks.{then-refused, then-next, then-passed, present-done}
+use Rattle.lines.proofs.Checks.{then-refused, then-next}
+use Rattle.job.proofs.Checks.{present-done, then-passed}
 use borrow.Author.Needs.{needs}
 use Rattle.job.proofs.head.run_head.Statement.{statement}
 use Rattle.job.proofs.head.run_head.Tie as tie

@@ -1,0 +1,37 @@
+-- `lines::head_line` meets its contract.
+-- Assumes nothing.
+use native.Mathlib.Omega.{arith}
+use Rattle.lines.proofs.Put.{sofar-first, sofar-then}
+use Rattle.lines.proofs.Words.{number-length}
+use Rattle.lines.specs.Rule.{headLine}
+use Rattle.lines.specs.Text.{decimal, decimalBy}
+use borrow.Author.Needs.{needs}
+use Rattle.lines.proofs.head_line.Statement.{statement}
+use Rattle.lines.proofs.head_line.Tie as tie
+
+slice-aggregate-word : tie.Need-slice-aggregate-word
+slice-aggregate-word c = search needs
+
+word-requires : tie.Need-word-requires
+word-requires c κs = search needs
+
+number-requires : tie.Need-number-requires
+number-requires c κs =
+    let start = c .before .before .before .before .before .before .before in
+    let s1 = sofar-first 6 (omega (arith, start .pre)) (omega arith) (c .before .before .before .word .ensures) in
+    omega (arith, start .pre, s1 .within, s1 .same, number-length 2 (start .args .count) 10 (omega arith))
+
+same-length : tie.Need-same-length
+same-length c = search needs
+
+returns : tie.Need-returns
+unfolding headLine decimal decimalBy
+returns c =
+    let start = c .before .before .before .before .before .before .before .before .before .before in
+    let s1 = sofar-first 6 (omega (arith, start .pre)) (omega arith) (c .before .before .before .before .before .before .word .ensures) in
+    let s2 = sofar-then 4 (omega (arith, start .pre)) (number-length 2 (start .args .count) 10 (omega arith)) s1 (c .before .before .number .ensures) in
+    s2 .wrote
+
+pub head-line-spec : {M : Type 1} → statement M
+head-line-spec =
+    tie.close (tie.spec slice-aggregate-word word-requires number-requires same-length returns)

@@ -1,0 +1,5 @@
+pub mod Text
+pub mod Rule
+pub mod Outcome
+pub mod Ready
+pub mod Exact

@@ -1,0 +1,76 @@
+-- Document 01, 'Job file and program': what each call answers and leaves in the lent line, for all inputs. A lent line has room for the longest line there is.
+-- Assumes nothing.
+use Prim.Native.Nat.{ℕ}
+use mathlib.Core.Path.{_≡_}
+use mathlib.Core.Bool.{Bool, _&&_}
+use mathlib.Core.List.{List}
+use lib.Dec.{eqb, leb}
+use lib.ListN.{length, getD}
+use Rattle.run.specs.declared.Verdict.{Verdict}
+use Rattle.run.specs.Refusals.{formatRefused, lengthRefused, npRefused}
+use Rattle.run.specs.Verdicts.{done, orElse, unless, leaves}
+use Rattle.dpch.specs.Formats.{formatOf}
+use Rattle.pich.specs.Rule.{isNp}
+use Rattle.pich.specs.Outcome.{mapVerdict as pichVerdict}
+use Rattle.slot.specs.Outcome.{mapVerdict as slotVerdict}
+use Rattle.aich.specs.Outcome.{mapVerdict as aichVerdict}
+use Rattle.lines.specs.declared.Shape.{Shape}
+use Rattle.lines.specs.declared.Told.{Told}
+use Rattle.lines.specs.Rule.{isKind, byKind, sizeOf, indicatorsOf, secondOf, pagingOf, slotNumberOf, tpcOf, tfciOf, dataOf, headLine, recordLine, refusalLine}
+use Rattle.lines.specs.Text.{put}
+
+-- the longest line: 'DPCH 16 14 ', 1280 digits and the end of the line
+abbrev pub lineSize : ℕ
+lineSize = 1292
+
+-- 3 for a line that is shorter; it is run `place` of the call
+abbrev pub room : ℕ → ℕ → Verdict
+room place lineLength = unless (leb lineSize lineLength) lengthRefused place
+
+-- 'format 1 or Np 8': what the byte behind the kind must be. An AICH record has no such byte
+unfoldable pub secondVerdict : ℕ → ℕ → Verdict
+secondVerdict kind second = byKind kind done (unless (isNp second) npRefused 0) (unless (leb second 16) formatRefused 0)
+
+-- shape_of: what a record's first two bytes say
+unfoldable pub shapeOf : ℕ → ℕ → Shape
+shapeOf kind second = record { known = isKind kind; verdict = secondVerdict kind second; size = sizeOf kind second }
+
+-- a kind that there is, a byte behind it that its rule takes, and as many bytes as they say
+unfoldable pub isWhole : List ℕ → Bool
+isWhole r = isKind (getD r 0 0) && eqb (secondVerdict (getD r 0 0) (secondOf r) .number) 0 && eqb (length r) (sizeOf (getD r 0 0) (secondOf r))
+
+-- 'then the mapper's checks with the mapper's places'
+unfoldable pub mapperVerdict : List ℕ → Verdict
+mapperVerdict r =
+    byKind (getD r 0 0)
+    (aichVerdict (indicatorsOf r) 32)
+    (pichVerdict (secondOf r) (pagingOf r) 300)
+    (slotVerdict (secondOf r) (slotNumberOf r) (tpcOf r) (dataOf r) (tfciOf r) (formatOf (secondOf r) .slot))
+
+-- a line is printed where the call is done: its length, and the lent line with it at the front
+pub record Prints (v : Verdict) (text line : List ℕ) (answer : ℕ) (line-after : List ℕ) : Type 0 where
+  pub length-is : answer ≡ leaves v (length text) 0
+  pub line-is : line-after ≡ leaves v (put 0 text line) line
+
+-- what a record's own bytes print: its line where the mapper takes it
+pub record Writes (r line : List ℕ) (answer : Told) (line-after : List ℕ) : Type 0 where
+  pub verdict-is : answer .verdict ≡ mapperVerdict r
+  pub prints : Prints (mapperVerdict r) (recordLine r) line (answer .length) line-after
+
+-- head: 3 (line); what a header prints
+pub record Head (count : ℕ) (line : List ℕ) (answer : Told) (line-after : List ℕ) : Type 0 where
+  pub verdict-is : answer .verdict ≡ room 0 (length line)
+  pub prints : Prints (room 0 (length line)) (headLine count) line (answer .length) line-after
+
+-- record: 3 (record, line), first for a line with no room, run 1, then for bytes that are no whole record, run 0; then the mapper's checks
+unfoldable pub lineVerdict : List ℕ → ℕ → Verdict
+lineVerdict r lineLength = orElse (room 1 lineLength) (orElse (unless (isWhole r) lengthRefused 0) (mapperVerdict r))
+
+pub record Record (r line : List ℕ) (answer : Told) (line-after : List ℕ) : Type 0 where
+  pub verdict-is : answer .verdict ≡ lineVerdict r (length line)
+  pub prints : Prints (lineVerdict r (length line)) (recordLine r) line (answer .length) line-after
+
+-- tell: 3 (line); what a refusal prints
+pub record Tell (refusal : Verdict) (line : List ℕ) (answer : Told) (line-after : List ℕ) : Type 0 where
+  pub verdict-is : answer .verdict ≡ room 0 (length line)
+  pub prints : Prints (room 0 (length line)) (refusalLine refusal) line (answer .length) line-after

@@ -1,0 +1,111 @@
+-- Document 01, 'Job file and program': the kinds of a record, the fields of one in its own bytes, and the lines that are printed.
+-- Assumes nothing.
+use Prim.Native.Nat.{ℕ, _+_}
+use mathlib.Core.Bool.{Bool, cond, _||_}
+use mathlib.Core.List.{List, [], _∷_, _++_}
+use lib.Dec.{eqb}
+use lib.IntN.{ℤ, pos, negsuc}
+use lib.ListN.{getD, take, drop}
+use Rattle.run.specs.declared.Verdict.{Verdict}
+use Rattle.run.specs.Table.{tab}
+use Rattle.dpch.specs.Formats.{formatOf}
+use Rattle.slot.specs.Rule.{dataSize, slotOf}
+use Rattle.pich.specs.Rule.{frameOf}
+use Rattle.aich.specs.Rule.{valuesOf}
+use Rattle.lines.specs.Text.{space, newline, number, spaced, row}
+
+-- 'version as 16 bits, high byte first, 1'
+abbrev pub version : ℕ
+version = 1
+
+-- 'Kind 1 AICH', 'Kind 2 PICH', 'Kind 3 DPCH'
+abbrev pub aichKind : ℕ
+aichKind = 1
+
+abbrev pub pichKind : ℕ
+pichKind = 2
+
+abbrev pub dpchKind : ℕ
+dpchKind = 3
+
+unfoldable pub isKind : ℕ → Bool
+isKind kind = eqb kind aichKind || eqb kind pichKind || eqb kind dpchKind
+
+-- one of three by kind
+unfoldable pub byKind : {A : Type 0} → ℕ → A → A → A → A
+byKind kind aich pich dpch = cond (eqb kind aichKind) aich (cond (eqb kind pichKind) pich dpch)
+
+-- the bytes of a record, its kind among them. AICH: kind, 16 bytes. PICH: kind, Np, indicators. DPCH: kind, format, slot, TPC, TFCI, data.
+-- The byte behind the kind, Np or format, says how long a PICH or DPCH record is
+unfoldable pub sizeOf : ℕ → ℕ → ℕ
+sizeOf kind second = byKind kind 17 (2 + second) (4 + formatOf second .tfci + dataSize (formatOf second))
+
+-- '0, 1, 2 for 0, +1, -1, others 11': any other byte stands for itself, which is a number that the AICH refuses
+unfoldable pub indicatorOf : ℕ → ℤ
+indicatorOf b = cond (eqb b 2) (negsuc 0) (pos b)
+
+unfoldable pub indicatorsOf : List ℕ → List ℤ
+indicatorsOf r = tab 16 (λ (s : ℕ). indicatorOf (getD r (1 + s) 0))
+
+-- the fields of a PICH record and of a DPCH record
+abbrev pub secondOf : List ℕ → ℕ
+secondOf r = getD r 1 0
+
+abbrev pub pagingOf : List ℕ → List ℕ
+pagingOf r = drop 2 r
+
+abbrev pub slotNumberOf : List ℕ → ℕ
+slotNumberOf r = getD r 2 0
+
+abbrev pub tpcOf : List ℕ → ℕ
+tpcOf r = getD r 3 0
+
+abbrev pub tfciOf : List ℕ → List ℕ
+tfciOf r = take (formatOf (secondOf r) .tfci) (drop 4 r)
+
+abbrev pub dataOf : List ℕ → List ℕ
+dataOf r = drop (4 + formatOf (secondOf r) .tfci) r
+
+-- the words of the lines: 'SLT ', 'AICH', 'PICH ', 'DPCH ', 'refused '
+abbrev pub markWord : List ℕ
+markWord = 83 ∷ 76 ∷ 84 ∷ space ∷ []
+
+abbrev pub aichWord : List ℕ
+aichWord = 65 ∷ 73 ∷ 67 ∷ 72 ∷ []
+
+abbrev pub pichWord : List ℕ
+pichWord = 80 ∷ 73 ∷ 67 ∷ 72 ∷ space ∷ []
+
+abbrev pub dpchWord : List ℕ
+dpchWord = 68 ∷ 80 ∷ 67 ∷ 72 ∷ space ∷ []
+
+abbrev pub refusedWord : List ℕ
+refusedWord = 114 ∷ 101 ∷ 102 ∷ 117 ∷ 115 ∷ 101 ∷ 100 ∷ space ∷ []
+
+-- 'First line: mark, version, count.'
+unfoldable pub headLine : ℕ → List ℕ
+headLine count = markWord ++ number version space ++ number count newline
+
+-- 'AICH prints its 32 values with spaces'
+unfoldable pub aichLine : List ℤ → List ℕ
+aichLine values = aichWord ++ spaced values ++ (newline ∷ [])
+
+-- 'PICH prints Np, then digits'
+unfoldable pub pichLine : ℕ → List ℕ → List ℕ
+pichLine np frame = pichWord ++ number np space ++ row frame
+
+-- 'kind, format, slot, digits'
+unfoldable pub dpchLine : ℕ → ℕ → List ℕ → List ℕ
+dpchLine format slot digits = dpchWord ++ number format space ++ number slot space ++ row digits
+
+-- the line of a record: what the mapper makes of its fields
+unfoldable pub recordLine : List ℕ → List ℕ
+recordLine r =
+    byKind (getD r 0 0)
+    (aichLine (valuesOf (indicatorsOf r)))
+    (pichLine (secondOf r) (frameOf (secondOf r) (pagingOf r)))
+    (dpchLine (secondOf r) (slotNumberOf r) (slotOf (formatOf (secondOf r)) (slotNumberOf r) (tpcOf r) (dataOf r) (tfciOf r)))
+
+-- 'A refusal prints refused NUMBER PLACE'
+unfoldable pub refusalLine : Verdict → List ℕ
+refusalLine v = refusedWord ++ number (v .number) space ++ number (v .place) newline

@@ -1,0 +1,66 @@
+-- `pccpch_read::read_head` meets its contract: the chain of checks is the definition's. Antenna 1's places count from 0, antenna 2's from 300.
+-- Assumes nothing.
+use Rattle.run.proofs.Chain.{or-else-is, each-is}
+use Rattle.pccpch.specs.Outcome.{readHead}
+use borrow.Author.Needs.{needs}
+use Rattle.pccpch_read.proofs.read_head.Statement.{statement}
+use Rattle.pccpch_read.proofs.read_head.Tie as tie
+
+first-above-requires : tie.Need-first-above-requires
+first-above-requires c κs = search needs
+
+found-requires : tie.Need-found-requires
+found-requires c κs = search needs
+
+first-above-requires-2 : tie.Need-first-above-requires-2
+first-above-requires-2 c κs = search needs
+
+found-requires-2 : tie.Need-found-requires-2
+found-requires-2 c κs = search needs
+
+or-else-requires : tie.Need-or-else-requires
+or-else-requires c κs = search needs
+
+unless-requires : tie.Need-unless-requires
+unless-requires c κs = search needs
+
+or-else-requires-2 : tie.Need-or-else-requires-2
+or-else-requires-2 c κs = search needs
+
+unless-requires-2 : tie.Need-unless-requires-2
+unless-requires-2 c κs = search needs
+
+or-else-requires-3 : tie.Need-or-else-requires-3
+or-else-requires-3 c κs = search needs
+
+unless-requires-3 : tie.Need-unless-requires-3
+unless-requires-3 c κs = search needs
+
+or-else-requires-4 : tie.Need-or-else-requires-4
+or-else-requires-4 c κs = search needs
+
+returns : tie.Need-returns
+unfolding readHead
+returns c =
+    or-else-is (c .or-else4 .ensures) (c .before .unless3 .ensures)
+    (or-else-is (c .before .before .or-else3 .ensures) (c .before .before .before .unless2 .ensures)
+    (or-else-is (c .before .before .before .before .or-else2 .ensures) (c .before .before .before .before .before .unless .ensures)
+    (or-else-is (c .before .before .before .before .before .before .or-else .ensures) (each-is _ _ _ _ _ _ (c .before .before .before .before .before .before .before .before .first-above2 .ensures) (c .before .before .before .before .before .before .before .found2 .ensures))
+    (each-is _ _ _ _ _ _ (c .before .before .before .before .before .before .before .before .before .before .first-above .ensures) (c .before .before .before .before .before .before .before .before .before .found .ensures)))))
+
+pub read-head-spec : {M : Type 1} → statement M
+read-head-spec =
+    tie.close
+    (tie.spec
+    first-above-requires
+    found-requires
+    first-above-requires-2
+    found-requires-2
+    or-else-requires
+    unless-requires
+    or-else-requires-2
+    unless-requires-2
+    or-else-requires-3
+    unless-requires-3
+    or-else-requires-4
+    returns)

@@ -1,0 +1,109 @@
+// The primary common control physical channel on two antennas, read (rule, promises and theorems are those of the crate `pccpch`): document 01, 'P-CCPCH'; TS 25.211, 5.3.3.3 and 5.3.3.3.1.
+use run::DTX;
+use run::Verdict;
+use run::found;
+use run::or_else;
+use run::refusal;
+use run::unless;
+ghost use mathlib.Core.Path.{_≡_};
+ghost use lib.ListN.{length};
+ghost use Rattle.run.specs.First.{firstBad, Every, atMost, agree};
+ghost use Rattle.pccpch.specs.Rule.{secondOf, dataIn};
+ghost use Rattle.pccpch.specs.Outcome.{readHead, rightKind, readBody, readVerdict, Read};
+
+fn read_head(antenna1: &[u8], antenna2: &[u8], data_length: usize) -> Verdict
+    ensures { λ r. ⌜ r ≡ readHead (now (antenna1 .entry)) (now (antenna2 .entry)) «data_length» ⌝ }
+{
+    let last = found(
+        antenna2,
+        scan::first_above(antenna2, 2),
+        refusal::DIGIT,
+        300,
+    );
+    let digits = or_else(
+        found(antenna1, scan::first_above(antenna1, 2), refusal::DIGIT, 0),
+        last,
+    );
+    let third = or_else(unless(data_length == 270, refusal::LENGTH, 2), digits);
+    let second = or_else(unless(antenna2.len() == 300, refusal::LENGTH, 1), third);
+    or_else(unless(antenna1.len() == 300, refusal::LENGTH, 0), second)
+}
+
+// Slot by slot: its first two digits are to be DTX, and its other 18 are not.
+fn first_wrong_kind(antenna1: &[u8]) -> usize
+    requires { ⌜ (length (now antenna1) ≡ 300) × Every (atMost 2 (now antenna1)) 300 ⌝ }
+    ensures { λ r. ⌜ r ≡ firstBad (rightKind (now (antenna1 .entry))) 300 ⌝ }
+{
+    let mut slot = 0;
+    while slot < 15 {
+        let start = 20 * slot;
+        let first = start + 2;
+        let i = scan::first_other(&antenna1[start..first], DTX);
+        if i < 2 {
+            return start + i;
+        }
+        let j = scan::first_above(&antenna1[first..first + 18], 1);
+        if j < 18 {
+            return first + j;
+        }
+        slot += 1;
+    }
+    300
+}
+
+// Each slot's 18 digits behind its first two.
+fn take_data(frame: &[u8], data: &mut [u8])
+    requires { ⌜ (length (now frame) ≡ 300) × (length (now «data») ≡ 270) ⌝ }
+    ensures { λ _. ⌜ now («data» .exit) ≡ dataIn (now (frame .entry)) ⌝ }
+{
+    let mut slot = 0;
+    while slot < 15 {
+        let from = 20 * slot + 2;
+        let to = 18 * slot;
+        write::copy(&mut data[to..to + 18], &frame[from..from + 18]);
+        slot += 1;
+    }
+}
+
+// Where antenna 2 differs from what antenna 1 implies.
+fn first_difference(antenna1: &[u8], antenna2: &[u8]) -> usize
+    requires { ⌜ (length (now antenna1) ≡ 300) × (length (now antenna2) ≡ 300) ⌝ }
+    ensures { λ r. ⌜ r ≡ firstBad (agree (secondOf (dataIn (now (antenna1 .entry)))) (now (antenna2 .entry))) 300 ⌝ }
+{
+    let mut data = [0u8; 270];
+    take_data(antenna1, &mut data);
+    let implied = pccpch::second_of(data);
+    scan::first_diff(&implied, antenna2)
+}
+
+fn read_body(antenna1: &[u8], antenna2: &[u8]) -> Verdict
+    requires { ⌜ (length (now antenna1) ≡ 300) × (length (now antenna2) ≡ 300) × Every (atMost 2 (now antenna1)) 300 ⌝ }
+    ensures { λ r. ⌜ r ≡ readBody (now (antenna1 .entry)) (now (antenna2 .entry)) ⌝ }
+{
+    let k = first_wrong_kind(antenna1);
+    let m = first_difference(antenna1, antenna2);
+    let second = unless(300 <= m, refusal::FRAME, 300 + m);
+    or_else(unless(300 <= k, refusal::FRAME, k), second)
+}
+
+fn read_verdict(antenna1: &[u8], antenna2: &[u8], data_length: usize) -> Verdict
+    ensures { λ r. ⌜ r ≡ readVerdict (now (antenna1 .entry)) (now (antenna2 .entry)) «data_length» ⌝ }
+{
+    let head = read_head(antenna1, antenna2, data_length);
+    if head.number != 0 {
+        return head;
+    }
+    read_body(antenna1, antenna2)
+}
+
+// The data of both antennas' frames, or the refusal and the data as it was.
+pub fn read(antenna1: &[u8], antenna2: &[u8], data: &mut [u8]) -> Verdict
+    ensures { λ r. ⌜ Read (now (antenna1 .entry)) (now (antenna2 .entry)) (now («data» .entry)) r (now («data» .exit)) ⌝ }
+{
+    let verdict = read_verdict(antenna1, antenna2, data.len());
+    if verdict.number != 0 {
+        return verdict;
+    }
+    take_data(antenna1, data);
+    verdict
+}

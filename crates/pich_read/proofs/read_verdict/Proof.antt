@@ -1,0 +1,39 @@
+-- `pich_read::read_verdict` meets its contract.
+-- Assumes nothing.
+use mathlib.Core.Path.{sym, _∙_}
+use Rattle.run.proofs.Chain.{or-else-refused, or-else-next, each-here}
+use Rattle.pich.specs.Outcome.{readVerdict}
+use Rattle.pich.proofs.Laws.{headed}
+use borrow.Author.Needs.{needs}
+use Rattle.pich_read.proofs.read_verdict.Statement.{statement}
+use Rattle.pich_read.proofs.read_verdict.Tie as tie
+
+read-head-requires : tie.Need-read-head-requires
+read-head-requires c κs = search needs
+
+returns : tie.Need-returns
+unfolding readVerdict
+returns c =
+    let e = c .before .before .read-head .ensures in
+    e ∙ sym (or-else-refused _ _ (rw e at (c .if1 .taken)))
+
+first-misfit-requires : tie.Need-first-misfit-requires
+first-misfit-requires c κs =
+    let h = headed _ _ _ (rw (c .before .before .read-head .ensures) at (c .if1 .left)) in
+    (h .np-ok, h .frame-ok)
+
+unless-requires : tie.Need-unless-requires
+unless-requires c κs = search needs
+
+returns-2 : tie.Need-returns-2
+unfolding readVerdict
+returns-2 c =
+    let turn = c .before .before in
+    let e = turn .before .before .read-head .ensures in
+    c .unless .ensures
+    ∙ rw (c .before .first-misfit .ensures) (sym (each-here _ _ _))
+    ∙ sym (or-else-next _ _ (rw e at (turn .if1 .left)))
+
+pub read-verdict-spec : {M : Type 1} → statement M
+read-verdict-spec =
+    tie.close (tie.spec read-head-requires returns first-misfit-requires unless-requires returns-2)

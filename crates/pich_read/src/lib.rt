@@ -1,0 +1,89 @@
+// The paging indicator channel, read (rule, promises and theorems are those of the crate `pich`): document 01, 'PICH'; TS 25.211, 5.3.3.10.
+use pich::Indicator;
+use pich::is_np;
+use run::DTX;
+use run::Verdict;
+use run::found;
+use run::or_else;
+use run::refusal;
+use run::unless;
+ghost use mathlib.Core.Path.{_≡_};
+ghost use mathlib.Core.Bool.{true};
+ghost use Prim.Native.Nat.{_*_, _<_, _^_};
+ghost use lib.ListN.{length};
+ghost use Rattle.run.specs.First.{firstBad};
+ghost use Rattle.pich.specs.Rule.{isNp, indicatorsIn};
+ghost use Rattle.pich.specs.Outcome.{stands, readHead, readVerdict, Read};
+
+// Where the digits of indicator q begin.
+fn first_digit(width: usize, q: Indicator) -> usize
+    requires { ⌜ width * q .0 < 2 ^ 64 ⌝ }
+    ensures { λ r. ⌜ r ≡ width * q .0 ⌝ }
+{
+    width * q.0
+}
+
+// The first digit that may not stand in a frame: group by group, then the tail.
+fn first_misfit(np: usize, frame: &[u8]) -> usize
+    requires { ⌜ (isNp np ≡ true) × (length (now frame) ≡ 300) ⌝ }
+    ensures { λ r. ⌜ r ≡ firstBad (stands np (now (frame .entry))) 300 ⌝ }
+{
+    let width = 288 / np;
+    let mut q = 0;
+    while q < np {
+        let start = first_digit(width, Indicator(q));
+        let end = start + width;
+        let i = scan::first_unlike(&frame[start..end]);
+        if i < width {
+            return start + i;
+        }
+        q += 1;
+    }
+    288 + scan::first_other(&frame[288..300], DTX)
+}
+
+fn read_head(np: usize, frame: &[u8], indicators_length: usize) -> Verdict
+    ensures { λ r. ⌜ r ≡ readHead np (now (frame .entry)) «indicators_length» ⌝ }
+{
+    let digits = found(frame, scan::first_above(frame, 2), refusal::DIGIT, 0);
+    let second = or_else(unless(indicators_length == np, refusal::LENGTH, 1), digits);
+    let lengths = or_else(unless(frame.len() == 300, refusal::LENGTH, 0), second);
+    or_else(unless(is_np(np), refusal::NP, 0), lengths)
+}
+
+fn read_verdict(np: usize, frame: &[u8], indicators_length: usize) -> Verdict
+    ensures { λ r. ⌜ r ≡ readVerdict np (now (frame .entry)) «indicators_length» ⌝ }
+{
+    let head = read_head(np, frame, indicators_length);
+    if head.number != 0 {
+        return head;
+    }
+    let k = first_misfit(np, frame);
+    unless(300 <= k, refusal::FRAME, k)
+}
+
+// Each indicator from the first of its digits.
+fn read_indicators(np: usize, frame: &[u8], indicators: &mut [u8])
+    requires { ⌜ (isNp np ≡ true) × (length (now frame) ≡ 300) × (length (now indicators) ≡ np) ⌝ }
+    ensures { λ _. ⌜ now (indicators .exit) ≡ indicatorsIn np (now (frame .entry)) ⌝ }
+{
+    let width = 288 / np;
+    let mut q = 0;
+    while q < np {
+        let start = first_digit(width, Indicator(q));
+        indicators[q] = frame[start];
+        q += 1;
+    }
+}
+
+// The indicators of a frame, or the refusal and the indicators as they were.
+pub fn read(np: usize, frame: &[u8], indicators: &mut [u8]) -> Verdict
+    ensures { λ r. ⌜ Read np (now (frame .entry)) (now (indicators .entry)) r (now (indicators .exit)) ⌝ }
+{
+    let verdict = read_verdict(np, frame, indicators.len());
+    if verdict.number != 0 {
+        return verdict;
+    }
+    read_indicators(np, frame, indicators);
+    verdict
+}

@@ -1,0 +1,96 @@
+// Scans of a run: each answers the first place that fails its test, or the number of places where none does.
+use run::DTX;
+use run::shorter;
+ghost use mathlib.Core.Path.{_≡_};
+ghost use Prim.Native.Nat.{min};
+ghost use lib.ListN.{length};
+ghost use Rattle.run.specs.First.{firstBad, Every, atMost, isAt, notAt, likeFirst, agree};
+
+// A digit that none of the run is above. A loop that takes no early way out can go many digits at a time.
+fn highest(s: &[u8]) -> u8
+    ensures { λ r. ⌜ Every (atMost r (now (s .entry))) (length (now (s .entry))) ⌝ }
+{
+    let mut high = 0;
+    let mut i = 0;
+    while i < s.len() {
+        if high < s[i] {
+            high = s[i];
+        }
+        i += 1;
+    }
+    high
+}
+
+// The first place whose digit is above `top`.
+pub fn first_above(s: &[u8], top: u8) -> usize
+    ensures { λ r. ⌜ r ≡ firstBad (atMost top (now (s .entry))) (length (now (s .entry))) ⌝ }
+{
+    if highest(s) <= top {
+        return s.len();
+    }
+    let mut i = 0;
+    while i < s.len() {
+        if top < s[i] {
+            return i;
+        }
+        i += 1;
+    }
+    i
+}
+
+// The first place whose digit is not `v`.
+pub fn first_other(s: &[u8], v: u8) -> usize
+    ensures { λ r. ⌜ r ≡ firstBad (isAt v (now (s .entry))) (length (now (s .entry))) ⌝ }
+{
+    let mut i = 0;
+    while i < s.len() {
+        if s[i] != v {
+            return i;
+        }
+        i += 1;
+    }
+    i
+}
+
+// The first place whose digit is `v`.
+pub fn first_equal(s: &[u8], v: u8) -> usize
+    ensures { λ r. ⌜ r ≡ firstBad (notAt v (now (s .entry))) (length (now (s .entry))) ⌝ }
+{
+    let mut i = 0;
+    while i < s.len() {
+        if s[i] == v {
+            return i;
+        }
+        i += 1;
+    }
+    i
+}
+
+// The first place whose digit is DTX or differs from the run's first.
+pub fn first_unlike(s: &[u8]) -> usize
+    ensures { λ r. ⌜ r ≡ firstBad (likeFirst (now (s .entry))) (length (now (s .entry))) ⌝ }
+{
+    if s.len() == 0 {
+        return 0;
+    }
+    let v = s[0];
+    if v == DTX {
+        return 0;
+    }
+    first_other(s, v)
+}
+
+// The first place at which two runs differ, as far as the shorter goes.
+pub fn first_diff(s: &[u8], t: &[u8]) -> usize
+    ensures { λ r. ⌜ r ≡ firstBad (agree (now (s .entry)) (now (t .entry))) (min (length (now (s .entry))) (length (now (t .entry)))) ⌝ }
+{
+    let n = shorter(s.len(), t.len());
+    let mut i = 0;
+    while i < n {
+        if s[i] != t[i] {
+            return i;
+        }
+        i += 1;
+    }
+    i
+}
