@@ -79,8 +79,8 @@ def edit_exists(crate, name):
 def check_row(row, function, faults):
     crate = crate_of(function)
     for name in names(row.get("once", "")):
-        # the theorems of a reader that has a crate of its own stand with its rule
-        if not declared(crate, "proofs", name) and not declared(crate.removesuffix("_read"), "proofs", name):
+        # the theorems of a crate NAME_PART stand with the rule, in NAME
+        if not declared(crate, "proofs", name) and not declared(crate.split("_")[0], "proofs", name):
             faults.append(f"{function}: no theorem {name} in its crate")
     for name in names(row.get("theorems", "")):
         if re.fullmatch(r"[a-z0-9-]+", name) and name not in {path.name for path in CRATES.iterdir()} and not anywhere("proofs", name):

@@ -53,40 +53,12 @@ fn reading() {
     let mut ones = [1; 32];
     ones[31] = -1;
     read(line::OTHER, &ones);
-    let mut values = [
-        0,
-        0,
-        2,
-        2,
-        0,
-        0,
-        2,
-        2,
-        0,
-        0,
-        2,
-        2,
-        0,
-        0,
-        2,
-        2,
-        0,
-        0,
-        2,
-        2,
-        0,
-        0,
-        2,
-        2,
-        0,
-        0,
-        2,
-        2,
-        0,
-        0,
-        2,
-        2,
-    ];
+    // what the indicators of P10 give
+    let mut values = [FAR; 32];
+    aich::map(
+        &[1, -1, 0, 0, 0, 0, 0, 0, 0, 0, 0, 0, 0, 0, 0, 0],
+        &mut values,
+    );
     read(line::DONE, &values);
     // unlike neighbours with the same sum: every correlation is that of the values before
     values[6] = 1;

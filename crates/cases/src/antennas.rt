@@ -20,7 +20,7 @@ fn digits_4(name: usize, input: &[u8; 4]) {
 
 fn values(name: usize, input: &[i32]) {
     let mut out = [FAR; 32];
-    let verdict = sttd::values(input, &mut out);
+    let verdict = sttd_values::values(input, &mut out);
     line::begin(name, b"STTD values");
     line::values(input);
     line::answer(verdict);

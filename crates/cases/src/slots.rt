@@ -12,7 +12,7 @@ fn map(
     data: &[u8],
     out: &mut [u8],
 ) {
-    let verdict = slot::map(format, slot, tpc, data, tfci, out);
+    let verdict = slot_map::map(format, slot, tpc, data, tfci, out);
     line::begin(name, b"slot map");
     line::named(b"format", format);
     line::named(b"slot", slot);

@@ -3,7 +3,7 @@
 use mathlib.Core.Path.{_≡_, sym, ap, ap₂, _∙_}
 use mathlib.Core.Bool.{Bool, true, false, cond}
 use mathlib.Core.List.{List, [], _∷_}
-use Prim.Native.Nat.{ℕ, _+_, _*_, _/_, _%_, _≤_, _<_}
+use Prim.Native.Nat.{ℕ, _+_, _*_, _/_, _%_, _<_}
 use native.Mathlib.Omega.{arith}
 use lib.Dec.{eqb, lit≤}
 use lib.ListN.{length}
@@ -21,15 +21,15 @@ use Rattle.aich.proofs.Laws.{entry, values-length, value-at, value-small, pairs
 use Rattle.sttd.specs.Rule.{sttd}
 use Rattle.sttd.specs.Exact.{Block}
 use Rattle.sttd.proofs.Laws.{block, sttd-keeps}
-use Rattle.combiner.specs.declared.Complex.{Complex}
-use Rattle.combiner.specs.Complexes.{cx, _⊞_, _⊠_, conj, opposite, power}
-use Rattle.combiner.specs.Rule.{symbol, t1, t2, combinedAt, combined, numberOf}
+use Rattle.correlator.specs.declared.Complex.{Complex}
+use Rattle.correlator.specs.Complexes.{cx, _⊞_, _⊠_, conj, opposite, power}
+use Rattle.correlator.specs.Rule.{symbol, t1, t2, combinedAt, combined, numberOf}
+use Rattle.correlator.specs.Method.{Small, Parts}
+use Rattle.correlator.proofs.Sizes.{small-times, small-plus}
+use Rattle.correlator.proofs.Combining.{combined-at, first, second, part-0, part-1, part-2, part-3}
+use Rattle.correlator.proofs.Algebra.{pair-clean, pair-plus}
 use Rattle.combiner.specs.Demand3.{antenna2, SecondAntenna, arriving, clean, noisy, own}
-use Rattle.combiner.specs.Method.{Small, Parts}
-use Rattle.combiner.proofs.Sizes.{small-times, small-plus}
-use Rattle.combiner.proofs.Combining.{combined-at, first, second, part-0, part-1, part-2, part-3}
 use Rattle.combiner.proofs.Fours.{by-fours}
-use Rattle.combiner.proofs.Linear.{pair-clean, pair-plus}
 
 -- ---- antenna 2
 pub sent-second : SecondAntenna

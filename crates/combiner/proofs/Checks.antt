@@ -14,25 +14,16 @@ use Rattle.run.proofs.Chain.{or-else-done, unless-done, each-done, or-else-next
 use Rattle.run.proofs.Ranges.{range-parts, range-holds}
 use Rattle.whole.specs.Bound.{Bounded}
 use Rattle.whole.proofs.Bound.{b-range, range-low, range-high}
-use Rattle.combiner.specs.declared.Complex.{Complex}
-use Rattle.combiner.specs.Rule.{numbersOf}
+use Rattle.correlator.specs.declared.Complex.{Complex}
+use Rattle.correlator.specs.Rule.{numbersOf}
+use Rattle.correlator.specs.Method.{Small, Parts}
 use Rattle.combiner.specs.Outcome.{gainIn, partIn, someGain, combineHead, combineBody, combineVerdict, Combine}
-use Rattle.combiner.specs.Method.{Small, Parts}
 
 pub gain-small : (z : ℤ) → gainIn z ≡ true → Bounded 4096 z
 gain-small z e = let p = range-parts (negsuc 4095) (pos 4096) z e in b-range 4095 z (p .0) (p .1)
 
 small-gain : (z : ℤ) → Bounded 4096 z → gainIn z ≡ true
 small-gain z b = range-holds (negsuc 4095) (pos 4096) z (range-low 4095 z b) (range-high 4095 z b)
-
-pub parts-small : (r : List ℤ) → length r ≡ 32 → Every (partIn r) 32 → Parts 1048576 r
-parts-small r n all =
-    record {
-      long = n;
-      small = λ k h.
-          let p = range-parts (negsuc 1048575) (pos 1048576) (getD r k (pos 0)) (all k h) in
-          b-range 1048575 (getD r k (pos 0)) (p .0) (p .1);
-    }
 
 pub small-parts : (r : List ℤ) → Parts 1048576 r → Every (partIn r) 32
 small-parts r p k h =

@@ -16,10 +16,10 @@ use Rattle.aich.specs.Outcome.{mapVerdict}
 use Rattle.aich.proofs.Checks.{taken}
 use Rattle.sttd.specs.Rule.{sttd}
 use Rattle.sttd.specs.Outcome.{valuesVerdict}
-use Rattle.combiner.specs.declared.Complex.{Complex}
-use Rattle.combiner.specs.Rule.{numberOf, numbersOf}
+use Rattle.correlator.specs.declared.Complex.{Complex}
+use Rattle.correlator.specs.Rule.{numberOf, numbersOf}
+use Rattle.correlator.specs.Method.{Small}
 use Rattle.combiner.specs.Outcome.{partIn, combineVerdict, Combine}
-use Rattle.combiner.specs.Method.{Small}
 use Rattle.combiner.specs.Demand3.{clean, noisy, own, Allowed, Sent, SecondAntenna, NoNoise, WithNoise}
 use Rattle.combiner.proofs.Channel.{sent-second, clean-length, clean-parts, clean-number, noisy-length, noisy-number}
 use Rattle.combiner.proofs.Checks.{Taken, gain-small, small-parts, head-passes, body-passes}

@@ -1,9 +1,5 @@
-pub mod Sizes
-pub mod Pairs
-pub mod Combining
 pub mod Checks
 pub mod Fours
-pub mod Linear
 pub mod Channel
 pub mod Exact
 pub mod Demand3

@@ -1,7 +1,7 @@
 -- Demand 3, in its words: 'Take any sixteen acquisition indicators, and two whole-number complex gains, in range, not both zero, constant over the access slot.
 -- Send the AICH from both antennas by STTD and add the two at the receiver. With no noise the combined correlation for each signature is exactly 32 times the sum of
 -- the squared gains times that signature's own indicator. With whole-number noise, while noise and received sum are in range, it is that plus what the noise alone
--- would give.' What is sent is what `aich::map` and `sttd::values` promise, and what is heard is what `combiner::combine` promises. Each statement is proved in
+-- would give.' What is sent is what `aich::map` and `sttd_values::values` promise, and what is heard is what `combiner::combine` promises. Each statement is proved in
 -- proofs/Demand3.antt under its name in small letters.
 -- Assumes nothing.
 use Prim.Native.Nat.{ℕ, _+_, _*_, _/_, _%_, _<_}
@@ -19,9 +19,9 @@ use Rattle.aich.specs.Rule.{valuesOf}
 use Rattle.aich.specs.Outcome.{mapVerdict, Map}
 use Rattle.sttd.specs.Rule.{sttd}
 use Rattle.sttd.specs.Outcome.{Values}
-use Rattle.combiner.specs.declared.Complex.{Complex}
-use Rattle.combiner.specs.Complexes.{_⊞_, _⊠_, conj, opposite, power}
-use Rattle.combiner.specs.Rule.{symbol}
+use Rattle.correlator.specs.declared.Complex.{Complex}
+use Rattle.correlator.specs.Complexes.{_⊞_, _⊠_, conj, opposite, power}
+use Rattle.correlator.specs.Rule.{symbol}
 use Rattle.combiner.specs.Outcome.{gainIn, partIn, someGain, Combine}
 
 -- ---- what is sent
@@ -30,11 +30,11 @@ use Rattle.combiner.specs.Outcome.{gainIn, partIn, someGain, Combine}
 abbrev pub antenna1 : List ℤ → List ℤ
 antenna1 indicators = valuesOf indicators
 
--- antenna 2: what `sttd::values` makes of them; the bar of a value is negation
+-- antenna 2: what `sttd_values::values` makes of them; the bar of a value is negation
 abbrev pub antenna2 : List ℤ → List ℤ
 antenna2 indicators = sttd negℤ (valuesOf indicators)
 
--- the calls send that: where `aich::map` takes the indicators, `sttd::values` takes what it wrote
+-- the calls send that: where `aich::map` takes the indicators, `sttd_values::values` takes what it wrote
 abbrev pub Sent : Type 0
 Sent =
     (indicators values out : List ℤ) (a b : Verdict) (v w : List ℤ)

@@ -14,10 +14,10 @@ use Rattle.aich.specs.Rule.{sign, valuesOf}
 use Rattle.aich.specs.Outcome.{mapVerdict}
 use Rattle.sttd.specs.Rule.{sttd}
 use Rattle.sttd.specs.Outcome.{valuesVerdict}
-use Rattle.combiner.specs.declared.Complex.{Complex}
+use Rattle.correlator.specs.declared.Complex.{Complex}
 use Rattle.combiner.specs.Outcome.{combineVerdict, Combine}
 
--- what `aich::map` writes, `sttd::values` takes
+-- what `aich::map` writes, `sttd_values::values` takes
 abbrev pub EncoderTakes : Type 0
 EncoderTakes = (indicators : List ℤ) → mapVerdict indicators 32 ≡ done → valuesVerdict (valuesOf indicators) 32 ≡ done
 

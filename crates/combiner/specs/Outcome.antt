@@ -12,8 +12,8 @@ use Rattle.run.specs.Ranges.{between, inRange}
 use Rattle.run.specs.Refusals.{lengthRefused, rangeRefused, gainsRefused}
 use Rattle.run.specs.Verdicts.{orElse, unless, each, leaves}
 use Rattle.whole.specs.Equal.{eqZ}
-use Rattle.combiner.specs.declared.Complex.{Complex}
-use Rattle.combiner.specs.Rule.{numbersOf}
+use Rattle.correlator.specs.declared.Complex.{Complex}
+use Rattle.correlator.specs.Rule.{numbersOf}
 
 -- 'Gain parts: -4096 to 4096.'
 abbrev pub gainIn : ℤ → Bool

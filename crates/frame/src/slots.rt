@@ -24,7 +24,7 @@ pub(crate) fn check_fields(format: usize, data: &[u8], tfci: &[u8], commands: &[
         let b = k * m;
         let c = b + m;
         let tpc = commands[k] as usize;
-        let verdict = slot::fields_verdict(
+        let verdict = slot_map::fields_verdict(
             format,
             tpc,
             &data[a..e],

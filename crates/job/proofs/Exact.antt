@@ -19,9 +19,10 @@ use Rattle.dpch.specs.Formats.{formats, formatOf}
 use Rattle.dpch.specs.Pilots.{symbols1, symbols3, symbols5, symbols7, symbolsOf, symbolsFor, pilotOf}
 use Rattle.slot.specs.Rule.{fieldsOf, slotOf, tfciStands}
 use Rattle.slot.specs.Outcome.{mapHead, fieldsVerdict, mapVerdict}
-use Rattle.lines.specs.Rule.{isKind, byKind, sizeOf, headLine, dpchLine, recordLine, refusalLine}
+use Rattle.kinds.specs.Rule.{isKind, byKind, sizeOf, secondVerdict}
+use Rattle.lines.specs.Rule.{headLine, dpchLine, recordLine, refusalLine}
 use Rattle.lines.specs.Text.{decimalBy, decimal, glyph, glyphs, put}
-use Rattle.lines.specs.Outcome.{lineSize, room, secondVerdict, mapperVerdict, Prints}
+use Rattle.lines.specs.Outcome.{lineSize, room, mapperVerdict, Prints}
 use Rattle.lines.proofs.Exact.{prints-once}
 use Rattle.job.specs.declared.Opened.{Opened}
 use Rattle.job.specs.declared.Ran.{Ran}

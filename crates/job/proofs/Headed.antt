@@ -13,9 +13,9 @@ use Rattle.run.specs.Verdicts.{orElse, leaves}
 use Rattle.run.proofs.Chain.{or-else-done, or-else-next, unless-pass, leaves-refused}
 use Rattle.run.proofs.Lent.{part-width, part-length, part-at}
 use Rattle.lines.specs.declared.Told.{Told}
-use Rattle.lines.specs.Rule.{isKind}
-use Rattle.lines.specs.Outcome.{room, secondVerdict, isWhole, lineVerdict, Record}
-use Rattle.lines.proofs.ByKind.{size-some}
+use Rattle.kinds.specs.Rule.{isKind, secondVerdict}
+use Rattle.lines.specs.Outcome.{room, isWhole, lineVerdict, Record}
+use Rattle.kinds.proofs.ByKind.{size-some}
 use Rattle.lines.proofs.Checks.{then-refused, then-next}
 use Rattle.lines.proofs.Records.{prints-refused, is-whole}
 use Rattle.job.specs.declared.Ran.{Ran}

@@ -7,8 +7,9 @@ use lib.Dec.{eqb, leb, ltb}
 use lib.ListN.{length, getD}
 use Rattle.run.specs.declared.Verdict.{Verdict}
 use Rattle.run.specs.Verdicts.{orElse, leaves}
-use Rattle.lines.specs.Rule.{isKind, headLine, recordLine}
-use Rattle.lines.specs.Outcome.{room, secondVerdict, mapperVerdict, Prints}
+use Rattle.kinds.specs.Rule.{isKind, secondVerdict}
+use Rattle.lines.specs.Rule.{headLine, recordLine}
+use Rattle.lines.specs.Outcome.{room, mapperVerdict, Prints}
 use Rattle.job.specs.declared.Opened.{Opened}
 use Rattle.job.specs.declared.Ran.{Ran}
 use Rattle.job.specs.declared.fault.Fault.{Fault}

@@ -3,7 +3,8 @@
 use Prim.Native.Nat.{ℕ, _+_, _/_, _%_}
 use mathlib.Core.List.{List}
 use lib.ListN.{getD, take, drop}
-use Rattle.lines.specs.Rule.{version, sizeOf}
+use Rattle.kinds.specs.Rule.{sizeOf}
+use Rattle.lines.specs.Rule.{version}
 
 -- 'SLT, version as 16 bits, high byte first, 1; a count byte; then the records'
 abbrev pub versionHigh : ℕ

@@ -1,9 +1,9 @@
 // The checks of a job file's own bytes: its header, and the head of a record.
 use crate::fault::Fault;
 use crate::fault::check;
+use kinds::Shape;
+use kinds::shape_of;
 use lines::LINE;
-use lines::Shape;
-use lines::shape_of;
 use run::Verdict;
 use run::or_else;
 use run::refusal;
@@ -12,7 +12,8 @@ ghost use mathlib.Core.Path.{_≡_};
 ghost use Prim.Native.Nat.{_+_, _<_};
 ghost use lib.ListN.{length, getD};
 ghost use Rattle.run.specs.Verdicts.{orElse};
-ghost use Rattle.lines.specs.Outcome.{room, shapeOf};
+ghost use Rattle.kinds.specs.Rule.{shapeOf};
+ghost use Rattle.lines.specs.Outcome.{room};
 ghost use Rattle.job.specs.Rule.{sizeAt};
 ghost use Rattle.job.specs.Outcome.{present, byteIs, headVerdict, kindHead, recordHead};
 

@@ -1,7 +1,6 @@
 pub mod Put
 pub mod Words
 pub mod Values
-pub mod ByKind
 pub mod Checks
 pub mod Records
 pub mod Exact

@@ -31,13 +31,14 @@ use Rattle.aich.specs.Outcome.{Map as AichMap}
 use Rattle.aich.specs.Exact.{Sized}
 use Rattle.aich.proofs.Checks.{taken}
 use Rattle.aich.proofs.Exact.{units-sized}
-use Rattle.lines.specs.declared.Shape.{Shape}
+use Rattle.kinds.specs.declared.Shape.{Shape}
 use Rattle.lines.specs.declared.Told.{Told}
-use Rattle.lines.specs.Rule.{isKind, sizeOf, indicatorOf, indicatorsOf, secondOf, pagingOf, slotNumberOf, tpcOf, aichLine, pichLine, dpchLine, recordLine}
-use Rattle.lines.specs.Outcome.{lineSize, room, secondVerdict, shapeOf, isWhole, mapperVerdict, lineVerdict, Prints, Writes, Record}
+use Rattle.kinds.specs.Rule.{isKind, sizeOf, secondVerdict, shapeOf}
+use Rattle.lines.specs.Rule.{indicatorOf, indicatorsOf, secondOf, pagingOf, slotNumberOf, tpcOf, aichLine, pichLine, dpchLine, recordLine}
+use Rattle.lines.specs.Outcome.{lineSize, room, isWhole, mapperVerdict, lineVerdict, Prints, Writes, Record}
 use Rattle.lines.specs.Ready.{Whole, AichRecord, PichRecord, DpchRecord, MapsSlot}
 use Rattle.lines.specs.Text.{put, Wrote}
-use Rattle.lines.proofs.ByKind.{by-aich, by-pich, by-dpch, kind-last, size-some}
+use Rattle.kinds.proofs.ByKind.{by-aich, by-pich, by-dpch, kind-last, size-some}
 use Rattle.lines.proofs.Checks.{then-refused, then-next, room-done}
 
 -- ---- a line is printed where the call is done

@@ -7,16 +7,15 @@ use mathlib.Core.List.{List}
 use lib.Dec.{eqb, leb}
 use lib.ListN.{length, getD}
 use Rattle.run.specs.declared.Verdict.{Verdict}
-use Rattle.run.specs.Refusals.{formatRefused, lengthRefused, npRefused}
-use Rattle.run.specs.Verdicts.{done, orElse, unless, leaves}
+use Rattle.run.specs.Refusals.{lengthRefused}
+use Rattle.run.specs.Verdicts.{orElse, unless, leaves}
 use Rattle.dpch.specs.Formats.{formatOf}
-use Rattle.pich.specs.Rule.{isNp}
 use Rattle.pich.specs.Outcome.{mapVerdict as pichVerdict}
 use Rattle.slot.specs.Outcome.{mapVerdict as slotVerdict}
 use Rattle.aich.specs.Outcome.{mapVerdict as aichVerdict}
-use Rattle.lines.specs.declared.Shape.{Shape}
 use Rattle.lines.specs.declared.Told.{Told}
-use Rattle.lines.specs.Rule.{isKind, byKind, sizeOf, indicatorsOf, secondOf, pagingOf, slotNumberOf, tpcOf, tfciOf, dataOf, headLine, recordLine, refusalLine}
+use Rattle.kinds.specs.Rule.{isKind, byKind, sizeOf, secondVerdict}
+use Rattle.lines.specs.Rule.{indicatorsOf, secondOf, pagingOf, slotNumberOf, tpcOf, tfciOf, dataOf, headLine, recordLine, refusalLine}
 use Rattle.lines.specs.Text.{put}
 
 -- the longest line: 'DPCH 16 14 ', 1280 digits and the end of the line
@@ -26,14 +25,6 @@ lineSize = 1292
 -- 3 for a line that is shorter; it is run `place` of the call
 abbrev pub room : ℕ → ℕ → Verdict
 room place lineLength = unless (leb lineSize lineLength) lengthRefused place
-
--- 'format 1 or Np 8': what the byte behind the kind must be. An AICH record has no such byte
-unfoldable pub secondVerdict : ℕ → ℕ → Verdict
-secondVerdict kind second = byKind kind done (unless (isNp second) npRefused 0) (unless (leb second 16) formatRefused 0)
-
--- shape_of: what a record's first two bytes say
-unfoldable pub shapeOf : ℕ → ℕ → Shape
-shapeOf kind second = record { known = isKind kind; verdict = secondVerdict kind second; size = sizeOf kind second }
 
 -- a kind that there is, a byte behind it that its rule takes, and as many bytes as they say
 unfoldable pub isWhole : List ℕ → Bool

@@ -11,8 +11,9 @@ use Rattle.run.specs.Verdicts.{leaves}
 use Rattle.slot.specs.Rule.{dataSize, slotOf}
 use Rattle.slot.specs.Outcome.{mapVerdict as slotVerdict}
 use Rattle.pich.specs.Rule.{isNp}
-use Rattle.lines.specs.Rule.{aichKind, pichKind, dpchKind, isKind, sizeOf, secondOf, slotNumberOf, tpcOf, dataOf, tfciOf}
-use Rattle.lines.specs.Outcome.{lineSize, secondVerdict}
+use Rattle.kinds.specs.Rule.{aichKind, pichKind, dpchKind, isKind, sizeOf, secondVerdict}
+use Rattle.lines.specs.Rule.{secondOf, slotNumberOf, tpcOf, dataOf, tfciOf}
+use Rattle.lines.specs.Outcome.{lineSize}
 
 -- a whole record, which `isWhole` says it is
 pub record Whole (r : List ℕ) : Type 0 where

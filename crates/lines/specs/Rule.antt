@@ -1,7 +1,7 @@
--- Document 01, 'Job file and program': the kinds of a record, the fields of one in its own bytes, and the lines that are printed.
+-- Document 01, 'Job file and program': the fields of a record in its own bytes, and the lines that are printed.
 -- Assumes nothing.
 use Prim.Native.Nat.{ℕ, _+_}
-use mathlib.Core.Bool.{Bool, cond, _||_}
+use mathlib.Core.Bool.{cond}
 use mathlib.Core.List.{List, [], _∷_, _++_}
 use lib.Dec.{eqb}
 use lib.IntN.{ℤ, pos, negsuc}
@@ -9,36 +9,15 @@ use lib.ListN.{getD, take, drop}
 use Rattle.run.specs.declared.Verdict.{Verdict}
 use Rattle.run.specs.Table.{tab}
 use Rattle.dpch.specs.Formats.{formatOf}
-use Rattle.slot.specs.Rule.{dataSize, slotOf}
+use Rattle.slot.specs.Rule.{slotOf}
 use Rattle.pich.specs.Rule.{frameOf}
 use Rattle.aich.specs.Rule.{valuesOf}
+use Rattle.kinds.specs.Rule.{byKind}
 use Rattle.lines.specs.Text.{space, newline, number, spaced, row}
 
 -- 'version as 16 bits, high byte first, 1'
 abbrev pub version : ℕ
 version = 1
-
--- 'Kind 1 AICH', 'Kind 2 PICH', 'Kind 3 DPCH'
-abbrev pub aichKind : ℕ
-aichKind = 1
-
-abbrev pub pichKind : ℕ
-pichKind = 2
-
-abbrev pub dpchKind : ℕ
-dpchKind = 3
-
-unfoldable pub isKind : ℕ → Bool
-isKind kind = eqb kind aichKind || eqb kind pichKind || eqb kind dpchKind
-
--- one of three by kind
-unfoldable pub byKind : {A : Type 0} → ℕ → A → A → A → A
-byKind kind aich pich dpch = cond (eqb kind aichKind) aich (cond (eqb kind pichKind) pich dpch)
-
--- the bytes of a record, its kind among them. AICH: kind, 16 bytes. PICH: kind, Np, indicators. DPCH: kind, format, slot, TPC, TFCI, data.
--- The byte behind the kind, Np or format, says how long a PICH or DPCH record is
-unfoldable pub sizeOf : ℕ → ℕ → ℕ
-sizeOf kind second = byKind kind 17 (2 + second) (4 + formatOf second .tfci + dataSize (formatOf second))
 
 -- '0, 1, 2 for 0, +1, -1, others 11': any other byte stands for itself, which is a number that the AICH refuses
 unfoldable pub indicatorOf : ℕ → ℤ

@@ -13,21 +13,13 @@ ghost use Rattle.run.specs.Refusals.{lengthRefused};
 ghost use Rattle.run.specs.Verdicts.{orElse, unless};
 ghost use Rattle.lines.specs.Rule.{indicatorOf, indicatorsOf, headLine, aichLine, pichLine, dpchLine, refusalLine};
 ghost use Rattle.lines.specs.Text.{Wrote};
-ghost use Rattle.lines.specs.Outcome.{shapeOf, room, isWhole, Writes, Head, Record, Tell};
+ghost use Rattle.lines.specs.Outcome.{room, isWhole, Writes, Head, Record, Tell};
 ghost use Rattle.lines.specs.Ready.{Whole, Roomy, AichRecord, PichRecord, DpchRecord, MapsSlot};
 
-mod kind;
 mod text;
 
 // The bytes of the longest line, which is a DPCH record's of format 16.
 pub const LINE: usize = 1292;
-
-// What a record's first two bytes say: whether there is such a kind, what is wrong with the byte behind it, and how many bytes it has.
-pub struct Shape {
-    pub known: bool,
-    pub verdict: Verdict,
-    pub size: usize,
-}
 
 // What a call answers: how long the line is; 0 where refused.
 pub struct Told {
@@ -142,7 +134,7 @@ fn map_slot(r: &[u8], digits: &mut [u8]) -> Verdict
     let f = dpch::format_of(format);
     let split = 4 + f.tfci;
     let n = r.len();
-    slot::map(format, slot, tpc, &r[split..n], &r[4..split], digits)
+    slot_map::map(format, slot, tpc, &r[split..n], &r[4..split], digits)
 }
 
 fn dpch_record(r: &[u8], line: &mut [u8]) -> Told
@@ -173,20 +165,6 @@ fn record_line(r: &[u8], line: &mut [u8]) -> Told
     }
 }
 
-// What a record's kind and the byte behind it say of it.
-pub fn shape_of(kind: u8, second: u8) -> Shape
-    ensures { λ r. ⌜ r ≡ shapeOf kind second ⌝ }
-{
-    let known = kind::is_kind(kind);
-    let verdict = kind::second_verdict(kind, second);
-    let size = kind::size_of(kind, second);
-    Shape {
-        known,
-        verdict,
-        size,
-    }
-}
-
 // Whether all bytes that the first two ask for are there, and none behind them. No record has fewer than two.
 fn is_whole(r: &[u8]) -> bool
     ensures { λ a. ⌜ a ≡ isWhole (now (r .entry)) ⌝ }
@@ -194,7 +172,7 @@ fn is_whole(r: &[u8]) -> bool
     if r.len() < 2 {
         return false;
     }
-    let s = shape_of(r[0], r[1]);
+    let s = kinds::shape_of(r[0], r[1]);
     let verdict = s.verdict;
     if verdict.number != 0 {
         return false;

@@ -18,7 +18,7 @@ use Rattle.pich.specs.Rule.{isNp, qOf}
 use Rattle.pich.specs.Outcome.{qVerdict}
 use Rattle.aich.specs.Rule.{isPlus, sign, valueAt, valuesOf, correlation, unit, indicatorsIn}
 use Rattle.aich.specs.Outcome.{mapVerdict as aichVerdict, given, readHead, readVerdict as aichReadVerdict}
-use Rattle.combiner.specs.Rule.{partOf, combinedAt, combined, numberOf, numbersOf}
+use Rattle.correlator.specs.Rule.{partOf, combinedAt, combined, numberOf, numbersOf}
 use Rattle.combiner.specs.Outcome.{someGain, combineHead, combineBody, combineVerdict}
 use Rattle.combiner.specs.Demand3.{clean}
 use Rattle.marked.specs.Table.{table, MarkedExamples}

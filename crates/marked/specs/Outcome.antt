@@ -14,8 +14,8 @@ use Rattle.pich.specs.Rule.{qOf}
 use Rattle.pich.specs.Outcome.{qVerdict}
 use Rattle.aich.specs.Rule.{valuesOf, indicatorsIn}
 use Rattle.aich.specs.Outcome.{mapVerdict as aichVerdict, readVerdict as aichReadVerdict}
-use Rattle.combiner.specs.declared.Complex.{Complex}
-use Rattle.combiner.specs.Rule.{numbersOf}
+use Rattle.correlator.specs.declared.Complex.{Complex}
+use Rattle.correlator.specs.Rule.{numbersOf}
 use Rattle.combiner.specs.Outcome.{combineVerdict}
 use Rattle.combiner.specs.Demand3.{clean}
 

@@ -8,7 +8,7 @@ use lib.ListN.{replicate}
 use lib.IntN.{ℤ, pos, negℤ}
 use Rattle.run.specs.Fields.{joined}
 use Rattle.run.specs.Verdicts.{done, refused}
-use Rattle.combiner.specs.Complexes.{cx}
+use Rattle.correlator.specs.Complexes.{cx}
 use Rattle.marked.specs.Outcome.{Left, nothing, digits, values, q, Outcome, slotMap, sttdDigits, pichQ, aichMap, aichRead, combineClean}
 
 -- a row: the number of the example, what the definitions of the promises give, and what document 01 says

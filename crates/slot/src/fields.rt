@@ -1,33 +1,13 @@
 // The fields of a slot: each is written into its own stretch of the slot.
 use dpch::Format;
-use run::DTX;
 use write::copy;
 use write::fill;
 ghost use mathlib.Core.Path.{_≡_};
 ghost use lib.ListN.{length};
-ghost use Rattle.run.specs.First.{firstBad};
 ghost use Rattle.run.specs.Written.{over};
 ghost use Rattle.dpch.specs.Pilots.{pilotSource};
-ghost use Rattle.slot.specs.Rule.{slotOf, tfciStands};
+ghost use Rattle.slot.specs.Rule.{slotOf};
 ghost use Rattle.slot.specs.Ready.{Ready};
-
-// The first TFCI digit that breaks the rule.
-pub fn first_mixed(s: &[u8], allowed: bool) -> usize
-    ensures { λ r. ⌜ r ≡ firstBad (tfciStands allowed (now (s .entry))) (length (now (s .entry))) ⌝ }
-{
-    if s.len() == 0 {
-        return 0;
-    }
-    let first = s[0];
-    if first != DTX {
-        return scan::first_equal(s, DTX);
-    }
-    if allowed {
-        scan::first_other(s, DTX)
-    } else {
-        0
-    }
-}
 
 // The pilot of a slot, as long as the field.
 fn write_pilot(dst: &mut [u8], slot: usize)

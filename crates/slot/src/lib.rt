@@ -1,15 +1,12 @@
-// One slot of the downlink DPCH, mapped: document 01, 'DPCH slot'; TS 25.211, 5.3.2.
+// One slot of the downlink DPCH, written: document 01, 'DPCH slot'; TS 25.211, 5.3.2.
 use run::Verdict;
-use run::found;
 use run::or_else;
 use run::refusal;
 use run::unless;
 ghost use mathlib.Core.Path.{_≡_};
-ghost use Rattle.slot.specs.Outcome.{mapHead, fieldsVerdict, mapVerdict, Map, Put};
+ghost use Rattle.slot.specs.Outcome.{mapHead, Put};
 
 mod fields;
-
-pub use fields::first_mixed;
 
 // What `read` answers: the TPC command, 0 where refused.
 pub struct Command {
@@ -18,7 +15,7 @@ pub struct Command {
 }
 
 // The checks of numbers and lengths.
-fn map_head(
+pub fn map_head(
     format: usize,
     slot: usize,
     data_length: usize,
@@ -38,52 +35,6 @@ fn map_head(
     or_else(unless(format <= 16, refusal::FORMAT, 0), numbers)
 }
 
-// The checks of command, TFCI and data; each counts its places from where it stands in its run.
-pub fn fields_verdict(
-    format: usize,
-    tpc: usize,
-    data: &[u8],
-    tfci: &[u8],
-    tpc_place: usize,
-    tfci_base: u32,
-    data_base: u32,
-) -> Verdict
-    ensures { λ r. ⌜ r ≡ fieldsVerdict format tpc (now («data» .entry)) (now (tfci .entry)) «tpc_place» «tfci_base» «data_base» ⌝ }
-{
-    let last = found(data, scan::first_above(data, 2), refusal::DIGIT, data_base);
-    let kinds = or_else(
-        found(
-            tfci,
-            fields::first_mixed(tfci, 12 <= format),
-            refusal::TFCI,
-            tfci_base,
-        ),
-        last,
-    );
-    let digits = or_else(
-        found(tfci, scan::first_above(tfci, 2), refusal::DIGIT, tfci_base),
-        kinds,
-    );
-    or_else(unless(tpc <= 1, refusal::TPC, tpc_place), digits)
-}
-
-fn map_verdict(
-    format: usize,
-    slot: usize,
-    tpc: usize,
-    data: &[u8],
-    tfci: &[u8],
-    out_length: usize,
-) -> Verdict
-    ensures { λ r. ⌜ r ≡ mapVerdict format slot tpc (now («data» .entry)) (now (tfci .entry)) «out_length» ⌝ }
-{
-    let head = map_head(format, slot, data.len(), tfci.len(), out_length);
-    if head.number != 0 {
-        return head;
-    }
-    fields_verdict(format, tpc, data, tfci, 0, 0, 0)
-}
-
 // The slot of the fields with no look at their digits, or the refusal and `out` as it was.
 pub fn put(format: usize, slot: usize, tpc: u8, data: &[u8], tfci: &[u8], out: &mut [u8]) -> Verdict
     ensures { λ r. ⌜ Put format slot tpc (now («data» .entry)) (now (tfci .entry)) (now (out .entry)) r (now (out .exit)) ⌝ }
@@ -95,23 +46,4 @@ pub fn put(format: usize, slot: usize, tpc: u8, data: &[u8], tfci: &[u8], out: &
     let f = dpch::format_of(format);
     fields::write(f, slot, tpc, data, tfci, out);
     head
-}
-
-// The slot of the fields, or the refusal and `out` as it was.
-pub fn map(
-    format: usize,
-    slot: usize,
-    tpc: usize,
-    data: &[u8],
-    tfci: &[u8],
-    out: &mut [u8],
-) -> Verdict
-    ensures { λ r. ⌜ Map format slot tpc (now («data» .entry)) (now (tfci .entry)) (now (out .entry)) r (now (out .exit)) ⌝ }
-{
-    let verdict = map_verdict(format, slot, tpc, data, tfci, out.len());
-    if verdict.number != 0 {
-        return verdict;
-    }
-    put(format, slot, tpc as u8, data, tfci, out);
-    verdict
 }

@@ -4,7 +4,7 @@ use run::Verdict;
 use run::found;
 use run::or_else;
 use run::refusal;
-use slot::first_mixed;
+use slot_map::first_mixed;
 use write::copy;
 ghost use mathlib.Core.Path.{_≡_};
 ghost use Prim.Native.Nat.{_+_, _≤_, _<_, min};

@@ -5,7 +5,7 @@ use mathlib.Core.Path.{_≡_}
 use mathlib.Core.List.{List}
 use lib.IntN.{ℤ}
 use lib.ListN.{length}
-use Rattle.combiner.specs.declared.Complex.{Complex}
+use Rattle.correlator.specs.declared.Complex.{Complex}
 use Rattle.combiner.specs.Outcome.{combineVerdict}
 use Rattle.packed.specs.Exact.{Tells}
 use Rattle.slt_combiner.specs.Outcome.{AichCombine}

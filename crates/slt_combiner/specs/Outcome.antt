@@ -6,8 +6,8 @@ use mathlib.Core.List.{List}
 use lib.IntN.{ℤ}
 use lib.ListN.{length}
 use Rattle.run.specs.Verdicts.{leaves}
-use Rattle.combiner.specs.declared.Complex.{Complex}
-use Rattle.combiner.specs.Rule.{numbersOf}
+use Rattle.correlator.specs.declared.Complex.{Complex}
+use Rattle.correlator.specs.Rule.{numbersOf}
 use Rattle.combiner.specs.Outcome.{combineVerdict}
 use Rattle.packed.specs.Rule.{packed}
 

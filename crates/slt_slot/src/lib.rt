@@ -13,7 +13,7 @@ pub extern "C" fn slt_slot_map(
 ) -> u64
     ensures { λ r. ⌜ SlotMap format slot tpc (now («data» .entry)) (now (tfci .entry)) (now (out .entry)) r (now (out .exit)) ⌝ }
 {
-    pack(slot::map(format, slot, tpc, data, tfci, out), 0)
+    pack(slot_map::map(format, slot, tpc, data, tfci, out), 0)
 }
 
 #[no_mangle]

@@ -25,5 +25,5 @@ pub extern "C" fn slt_sttd_digits(input: &[u8], out: &mut [u8]) -> u64
 pub extern "C" fn slt_sttd_values(input: &[i32], out: &mut [i32]) -> u64
     ensures { λ r. ⌜ SttdValues (now (input .entry)) (now (out .entry)) r (now (out .exit)) ⌝ }
 {
-    pack(sttd::values(input, out), 0)
+    pack(sttd_values::values(input, out), 0)
 }

@@ -4,8 +4,8 @@ use Prim.Native.Nat.{_+_}
 use native.Mathlib.Omega.{arith}
 use denote.Ref.{now}
 use lib.ListN.{getD}
-use Rattle.lines.specs.Outcome.{shapeOf}
-use Rattle.lines.proofs.ByKind.{size-small}
+use Rattle.kinds.specs.Rule.{shapeOf}
+use Rattle.kinds.proofs.ByKind.{size-small}
 use borrow.Author.Needs.{needs}
 use Rattle.job.proofs.head.end_of.Statement.{statement}
 use Rattle.job.proofs.head.end_of.Tie as tie

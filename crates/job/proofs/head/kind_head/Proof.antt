@@ -1,6 +1,6 @@
 -- `job::head::kind_head` meets its contract: the chain of checks is the definition's.
 -- Assumes nothing.
-use Rattle.lines.specs.Outcome.{shapeOf}
+use Rattle.kinds.specs.Rule.{shapeOf}
 use Rattle.job.specs.Outcome.{kindHead}
 use borrow.Author.Needs.{needs}
 use Rattle.job.proofs.head.kind_head.Statement.{statement}

@@ -1,0 +1,120 @@
+-- The components of T: where they stand, how large they are, and how a loop writes them pair by pair.
+-- Assumes nothing.
+use mathlib.Core.Path.{_≡_, refl, sym, _∙_}
+use mathlib.Core.Bool.{Bool, true, false, cond}
+use mathlib.Core.List.{List}
+use Prim.Native.Nat.{ℕ, _+_, _*_, _/_, _%_, _<_}
+use native.Mathlib.Omega.{arith}
+use lib.Dec.{eqb}
+use lib.ListN.{length, getD, set}
+use lib.IntN.{ℤ, pos}
+use Rattle.run.proofs.Front.{Front, front-length, front-store}
+use Rattle.run.proofs.Table.{tab-length, tab-at}
+use Rattle.whole.specs.Bound.{Bounded}
+use Rattle.correlator.specs.declared.Complex.{Complex}
+use Rattle.correlator.specs.Rule.{symbol, t1, t2, partOf, combinedAt, combined, numberOf, numbersOf}
+use Rattle.correlator.specs.Method.{Small, Parts, correlations}
+use Rattle.correlator.proofs.Sizes.{small-conj, small-times, small-plus, small-minus}
+
+abbrev entry : List ℤ → ℕ → ℤ
+entry x k = getD x k (pos 0)
+
+pub combined-length : (h1 h2 : Complex) (r : List ℤ) → length (combined h1 h2 r) ≡ 32
+unfolding combined
+combined-length h1 h2 r = tab-length 32 (combinedAt h1 h2 r)
+
+pub combined-at : (h1 h2 : Complex) (r : List ℤ) (j : ℕ) → j < 32 → entry (combined h1 h2 r) j ≡ combinedAt h1 h2 r j
+unfolding combined
+combined-at h1 h2 r j h = tab-at 32 (combinedAt h1 h2 r) j (pos 0) h
+
+-- the four components of pair m
+module _ (h1 h2 : Complex) (r : List ℤ) (m : ℕ) where
+  abbrev pub first : Complex
+  first = t1 h1 h2 (symbol r (2 * m)) (symbol r (2 * m + 1))
+
+  abbrev pub second : Complex
+  second = t2 h1 h2 (symbol r (2 * m)) (symbol r (2 * m + 1))
+
+  part-at : (j i : ℕ) → j / 4 ≡ m → j % 4 ≡ i → combinedAt h1 h2 r j ≡ partOf first second i
+  unfolding combinedAt
+  part-at j i e f = rw (e, f)
+
+  pub part-0 : combinedAt h1 h2 r (4 * m) ≡ first .re
+  unfolding partOf
+  part-0 = part-at (4 * m) 0 (omega arith) (omega arith)
+
+  pub part-1 : combinedAt h1 h2 r (4 * m + 1) ≡ first .im
+  unfolding partOf
+  part-1 = part-at (4 * m + 1) 1 (omega arith) (omega arith)
+
+  pub part-2 : combinedAt h1 h2 r (4 * m + 2) ≡ second .re
+  unfolding partOf
+  part-2 = part-at (4 * m + 2) 2 (omega arith) (omega arith)
+
+  pub part-3 : combinedAt h1 h2 r (4 * m + 3) ≡ second .im
+  unfolding partOf
+  part-3 = part-at (4 * m + 3) 3 (omega arith) (omega arith)
+
+  -- all four stored: the front is four entries longer
+  pub turn-front : m < 8 → (d₀ d : List ℤ) (a b c e : ℤ) → a ≡ first .re → b ≡ first .im → c ≡ second .re → e ≡ second .im → length d₀ ≡ 32
+      → Front (combined h1 h2 r) d₀ d (4 * m)
+      → Front (combined h1 h2 r) d₀ (set (set (set (set d (4 * m) a) (4 * m + 1) b) (4 * m + 2) c) (4 * m + 3) e) (4 * (m + 1))
+  turn-front h d₀ d a b c e pa pb pc pe n f =
+      let l0 = front-length f in
+      let f1 : Front (combined h1 h2 r) d₀ (set d (4 * m) a) (4 * m + 1) =
+      front-store (pos 0) f (omega arith) (pa ∙ sym (combined-at h1 h2 r (4 * m) (omega arith) ∙ part-0))
+      in
+      let l1 = front-length f1 in
+      let e2 : 4 * m + 1 + 1 ≡ 4 * m + 2 = omega arith in
+      let f2 : Front (combined h1 h2 r) d₀ (set (set d (4 * m) a) (4 * m + 1) b) (4 * m + 2) =
+      rw (← e2) (front-store (pos 0) f1 (omega arith) (pb ∙ sym (combined-at h1 h2 r (4 * m + 1) (omega arith) ∙ part-1)))
+      in
+      let l2 = front-length f2 in
+      let e3 : 4 * m + 2 + 1 ≡ 4 * m + 3 = omega arith in
+      let f3 : Front (combined h1 h2 r) d₀ (set (set (set d (4 * m) a) (4 * m + 1) b) (4 * m + 2) c) (4 * m + 3) =
+      rw (← e3) (front-store (pos 0) f2 (omega arith) (pc ∙ sym (combined-at h1 h2 r (4 * m + 2) (omega arith) ∙ part-2)))
+      in
+      let l3 = front-length f3 in
+      let e4 : 4 * m + 3 + 1 ≡ 4 * (m + 1) = omega arith in
+      rw (← e4) (front-store (pos 0) f3 (omega arith) (pe ∙ sym (combined-at h1 h2 r (4 * m + 3) (omega arith) ∙ part-3)))
+
+-- what a symbol of parts in range is, and what T makes of two of them
+pub symbol-small : {B : ℕ} {r : List ℤ} → Parts B r → (k : ℕ) → k < 16 → Small B (symbol r k)
+symbol-small p k h = record { re-in = p .small (2 * k) (omega arith); im-in = p .small (2 * k + 1) (omega arith) }
+
+module _ {h1 h2 r1 r2 : Complex} (p : Small 32768 h1) (q : Small 32768 h2) (a : Small 2147483648 r1) (b : Small 2147483648 r2) where
+  first-small : Small 281474976710656 (t1 h1 h2 r1 r2)
+  first-small = small-plus (small-times (small-conj p) a) (small-times q (small-conj b))
+
+  second-small : Small 281474976710656 (t2 h1 h2 r1 r2)
+  second-small = small-minus (small-times (small-conj p) b) (small-times q (small-conj a))
+
+part-small : (B : ℕ) (x y : Complex) (i : ℕ) → Small B x → Small B y → Bounded B (partOf x y i)
+unfolding partOf
+part-small B x y i p q = pick (eqb i 0) (eqb i 1) (eqb i 2)
+  where
+    pick : (a b c : Bool) → Bounded B (cond a (x .re) (cond b (x .im) (cond c (y .re) (y .im))))
+    pick true b c = p .re-in
+    pick false true c = p .im-in
+    pick false false true = q .re-in
+    pick false false false = q .im-in
+
+pub combined-small : (h1 h2 : Complex) (r : List ℤ) → Small 32768 h1 → Small 32768 h2 → Parts 2147483648 r → Parts 281474976710656 (combined h1 h2 r)
+unfolding combinedAt
+combined-small h1 h2 r p q parts =
+    record {
+      long = combined-length h1 h2 r;
+      small = λ j h.
+          let a = symbol-small parts (2 * (j / 4)) (omega arith) in
+          let b = symbol-small parts (2 * (j / 4) + 1) (omega arith) in
+          rw (combined-at h1 h2 r j h) (part-small 281474976710656 _ _ (j % 4) (first-small p q a b) (second-small p q a b));
+    }
+
+-- the numbers are the correlations of T
+pub numbers-are : (h1 h2 : Complex) (r : List ℤ) → correlations (combined h1 h2 r) ≡ numbersOf h1 h2 r
+unfolding correlations numbersOf numberOf
+numbers-are h1 h2 r = refl
+
+pub numbers-length : (h1 h2 : Complex) (r : List ℤ) → length (numbersOf h1 h2 r) ≡ 16
+unfolding numbersOf
+numbers-length h1 h2 r = tab-length 16 _

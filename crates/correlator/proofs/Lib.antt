@@ -1,0 +1,5 @@
+pub mod Algebra
+pub mod Sizes
+pub mod Typed
+pub mod Pairs
+pub mod Combining

@@ -1,0 +1,3 @@
+pub mod Complexes
+pub mod Rule
+pub mod Method

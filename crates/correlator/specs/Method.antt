@@ -1,0 +1,29 @@
+-- How the code finds the numbers: what its private functions ask and promise. Nothing here is part of a public promise.
+-- Assumes nothing.
+use Prim.Native.Nat.{ℕ, _+_, _*_, _<_}
+use mathlib.Core.Path.{_≡_}
+use mathlib.Core.List.{List}
+use lib.ListN.{length, getD}
+use lib.IntN.{ℤ, pos, _+ℤ_}
+use Rattle.run.specs.Table.{tab}
+use Rattle.whole.specs.Bound.{Bounded}
+use Rattle.aich.specs.Rule.{correlation}
+use Rattle.correlator.specs.declared.Complex.{Complex}
+
+-- both parts lie in -B to B
+pub record Small (B : ℕ) (z : Complex) : Type 0 where
+  pub re-in : Bounded B (z .re)
+  pub im-in : Bounded B (z .im)
+
+-- 32 numbers, each in -B to B
+pub record Parts (B : ℕ) (x : List ℤ) : Type 0 where
+  pub long : length x ≡ 32
+  pub small : (k : ℕ) → k < 32 → Bounded B (getD x k (pos 0))
+
+-- two components at a time: b(s, 2k) = b(s, 2k + 1)
+unfoldable pub pairSums : List ℤ → List ℤ
+pairSums t = tab 16 (λ (k : ℕ). getD t (2 * k) (pos 0) +ℤ getD t (2 * k + 1) (pos 0))
+
+-- the correlation with each signature
+unfoldable pub correlations : List ℤ → List ℤ
+correlations t = tab 16 (correlation t)

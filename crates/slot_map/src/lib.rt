@@ -1,0 +1,96 @@
+// One slot of the downlink DPCH, mapped: its fields are checked, and then written by the crate `slot`, where rule, promises and theorems stand:
+// document 01, 'DPCH slot'; TS 25.211, 5.3.2.
+use run::DTX;
+use run::Verdict;
+use run::found;
+use run::or_else;
+use run::refusal;
+use run::unless;
+ghost use mathlib.Core.Path.{_≡_};
+ghost use lib.ListN.{length};
+ghost use Rattle.run.specs.First.{firstBad};
+ghost use Rattle.slot.specs.Rule.{tfciStands};
+ghost use Rattle.slot.specs.Outcome.{fieldsVerdict, mapVerdict, Map};
+
+// The first TFCI digit that breaks the rule.
+pub fn first_mixed(s: &[u8], allowed: bool) -> usize
+    ensures { λ r. ⌜ r ≡ firstBad (tfciStands allowed (now (s .entry))) (length (now (s .entry))) ⌝ }
+{
+    if s.len() == 0 {
+        return 0;
+    }
+    let first = s[0];
+    if first != DTX {
+        return scan::first_equal(s, DTX);
+    }
+    if allowed {
+        scan::first_other(s, DTX)
+    } else {
+        0
+    }
+}
+
+// The checks of command, TFCI and data; each counts its places from where it stands in its run.
+pub fn fields_verdict(
+    format: usize,
+    tpc: usize,
+    data: &[u8],
+    tfci: &[u8],
+    tpc_place: usize,
+    tfci_base: u32,
+    data_base: u32,
+) -> Verdict
+    ensures { λ r. ⌜ r ≡ fieldsVerdict format tpc (now («data» .entry)) (now (tfci .entry)) «tpc_place» «tfci_base» «data_base» ⌝ }
+{
+    let last = found(data, scan::first_above(data, 2), refusal::DIGIT, data_base);
+    let kinds = or_else(
+        found(
+            tfci,
+            first_mixed(tfci, 12 <= format),
+            refusal::TFCI,
+            tfci_base,
+        ),
+        last,
+    );
+    let digits = or_else(
+        found(tfci, scan::first_above(tfci, 2), refusal::DIGIT, tfci_base),
+        kinds,
+    );
+    or_else(unless(tpc <= 1, refusal::TPC, tpc_place), digits)
+}
+
+fn map_verdict(
+    format: usize,
+    slot: usize,
+    tpc: usize,
+    data: &[u8],
+    tfci: &[u8],
+    out_length: usize,
+) -> Verdict
+    ensures { λ r. ⌜ r ≡ mapVerdict format slot tpc (now («data» .entry)) (now (tfci .entry)) «out_length» ⌝ }
+{
+    let head = slot::map_head(format, slot, data.len(), tfci.len(), out_length);
+    if head.number != 0 {
+        return head;
+    }
+    fields_verdict(format, tpc, data, tfci, 0, 0, 0)
+}
+
+// The slot of the fields, or the refusal and `out` as it was.
+pub fn map(
+    format: usize,
+    slot: usize,
+    tpc: usize,
+    data: &[u8],
+    tfci: &[u8],
+    out: &mut [u8],
+) -> Verdict
+    ensures { λ r. ⌜ Map format slot tpc (now («data» .entry)) (now (tfci .entry)) (now (out .entry)) r (now (out .exit)) ⌝ }
+{
+    let verdict = map_verdict(format, slot, tpc, data, tfci, out.len());
+    if verdict.number != 0 {
+        return verdict;
+    }
+    slot::put(format, slot, tpc as u8, data, tfci, out);
+    verdict
+}
