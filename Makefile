@@ -8,9 +8,11 @@ SECOND = target/second/release
 
 .PHONY: test steps lib slotline run fmt audit judges second jobs cases host fuzz install package bench clean
 
-# The steps two at a time, the output of each in one piece. rt ci comes last: it proves every crate from nothing, tries every must-fail edit, and prints
-# the verdict.
+# What the steps stand on is proved first, then the steps go two at a time, the output of each in one piece. rt ci comes last: it proves every crate from
+# nothing, tries every must-fail edit, and prints the verdict. It starts three checks at a time, so that two cores stay busy while one waits for its fellows.
+export RT_JOBS = 3
 test:
+	rt check $(BELOW_C) slotline
 	$(MAKE) --no-print-directory -j2 --output-sync=target steps
 	rt ci
 
@@ -19,11 +21,10 @@ steps: fmt audit second jobs cases host fuzz package
 fmt:
 	rt fmt --check
 
-# Proves the C calls and what they stand on, and compiles them: an object for each channel's, in one archive. One rt at a time works in target/; by itself
-# it proves two crates at a time.
+# Proves the C calls and what they stand on, and compiles them: an object for each channel's, in one archive. One rt at a time works in target/.
 ONE_RT = mkdir -p target && flock target/one-rt
 C_CALLS = slt_slot slt_frame slt_pich slt_pccpch slt_sttd slt_aich slt_combiner slt_sample
-BELOW_C = packed slot_read frame_read pich_read pccpch_read sttd aich combiner sample
+BELOW_C = packed slot_read frame_read pich_read pccpch_read sttd sttd_values aich combiner sample
 lib:
 	$(ONE_RT) rt check $(BELOW_C)
 	for name in $(C_CALLS); do $(ONE_RT) rt staticlib $$name || exit 1; done

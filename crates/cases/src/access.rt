@@ -160,10 +160,15 @@ const PLUS_ON_0: [i32; 32] = [
 
 fn combining() {
     combine(line::P12, 3, 4, 0, 0, &MINUS_ON_5);
-    let mut parts = [0; 32];
+    let parts = [0; 32];
     combine(line::OTHER, 4097, 0, 0, 0, &parts);
     combine(line::OTHER, 4096, 0, 0, 0, &parts);
     combine(line::OTHER, 1, 1, 2, -1, &PLUS_ON_0);
+}
+
+// A received part or a gain part that is out of range, and gains that are both zero.
+fn not_combining() {
+    let mut parts = [0; 32];
     parts[30] = 1048577;
     combine(line::REFUSAL_11, 0, 0, 0, 0, &parts);
     combine(line::REFUSAL_11, 0, -4097, 4097, -4097, &parts);
@@ -179,4 +184,5 @@ pub(crate) fn all() {
     mapping();
     reading();
     combining();
+    not_combining();
 }

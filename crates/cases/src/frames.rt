@@ -3,13 +3,17 @@ use crate::line;
 use crate::runs;
 use crate::runs::MARK;
 
+fn fields(commands: &[u8], tfci: &[u8], data: &[u8]) {
+    line::run(b"commands", commands);
+    line::run(b"TFCI", tfci);
+    line::run(b"data", data);
+}
+
 fn map(name: usize, format: usize, data: &[u8], tfci: &[u8], out: &mut [u8], commands: &[u8]) {
     let verdict = frame::map(format, data, tfci, out, commands);
     line::begin(name, b"frame map");
     line::named(b"format", format);
-    line::run(b"commands", commands);
-    line::run(b"TFCI", tfci);
-    line::run(b"data", data);
+    fields(commands, tfci, data);
     line::answer(verdict);
     line::digits(out);
     line::end();
@@ -28,9 +32,7 @@ fn read(
     line::named(b"format", format);
     line::run(b"digits", run);
     line::answer(verdict);
-    line::run(b"commands", commands);
-    line::run(b"TFCI", tfci);
-    line::run(b"data", data);
+    fields(commands, tfci, data);
     line::end();
 }
 
@@ -51,15 +53,20 @@ fn read_1(name: usize, run: &[u8]) {
     read(name, 1, run, &mut data, &mut tfci, &mut commands);
 }
 
-// A frame, read back with the digit at a place turned to another.
-fn read_damaged(name: usize, place: usize, digit: u8) {
+// The frame that is read.
+fn sent(run: &mut [u8]) {
     let mut data = [0; 30];
     runs::repeat(&[1, 0, 0, 2, 1], &mut data);
     let mut tfci = [0; 30];
     runs::repeat(&[0, 1, 1, 1, 0, 0, 1], &mut tfci);
-    let mut run = [MARK; 150];
     let commands = [0, 1, 0, 0, 1, 1, 0, 0, 0, 1, 1, 1, 0, 1, 1];
-    frame::map(1, &data, &tfci, &mut run, &commands);
+    frame::map(1, &data, &tfci, run, &commands);
+}
+
+// That frame, read back with the digit at a place turned to another.
+fn read_damaged(name: usize, place: usize, digit: u8) {
+    let mut run = [MARK; 150];
+    sent(&mut run);
     runs::put(&mut run, place, digit);
     read_1(name, &run);
 }

@@ -3,6 +3,11 @@ use crate::line;
 use crate::runs;
 use crate::runs::MARK;
 
+fn fields(tfci: &[u8], data: &[u8]) {
+    line::run(b"TFCI", tfci);
+    line::run(b"data", data);
+}
+
 fn map(
     name: usize,
     format: usize,
@@ -17,8 +22,7 @@ fn map(
     line::named(b"format", format);
     line::named(b"slot", slot);
     line::named(b"TPC", tpc);
-    line::run(b"TFCI", tfci);
-    line::run(b"data", data);
+    fields(tfci, data);
     line::answer(verdict);
     line::digits(out);
     line::end();
@@ -32,8 +36,7 @@ fn read(name: usize, format: usize, slot: usize, run: &[u8], data: &mut [u8], tf
     line::run(b"digits", run);
     line::answer(command.verdict);
     line::named(b"TPC", command.tpc);
-    line::run(b"TFCI", tfci);
-    line::run(b"data", data);
+    fields(tfci, data);
     line::end();
 }
 
