@@ -43,14 +43,14 @@ run: slotline
 audit:
 	python3 audit/promises.py
 
-# The programs of the independent second program.
-judges: lib
-	cd second && cargo build --quiet --release --offline --bins
+# The programs of the independent second program that need no archive.
+judges:
+	cd second && cargo build --quiet --release --offline --bin jobs --bin cases --bin fuzz
 
 # Its own tests, then the comparison with the archive.
-second: judges
+second: lib judges
 	cd second && cargo test --quiet --release --offline
-	$(SECOND)/second
+	cd second && cargo run --quiet --release --offline
 
 # The program on many job files and on the examples, against the text of the second program's rules; then the generator
 # that docs/JOBFILE.md shows, whose job the rules print as well.
@@ -74,7 +74,7 @@ host: lib
 # How many there are is fixed, and SEED decides which: `make fuzz SEED=2` tries others, with CASE=N only that C call.
 SEED = 1
 CASE =
-fuzz: judges slotline
+fuzz: lib judges slotline
 	mkdir -p target/fuzz
 	$(CC) $(CFLAGS) $(SANITIZE) -Iinclude fuzz/*.c $(LIB) -o target/fuzz/fuzz
 	$(SECOND)/fuzz $(SEED) $(CASE) | target/fuzz/fuzz

@@ -2,7 +2,8 @@
 """Compares docs/PROMISES.md with the source.
 
 Each public function of a crate has a row; each promise, theorem and edit that a row names exists in its crate; each row
-has at least two edits; each edit of a crate is named on the page. Prints what is missing, and fails if anything is.
+has at least two edits; each edit of a crate is named on the page, and the text that it replaces stands once in its file. Prints what is
+missing, and fails if anything is.
 """
 import pathlib
 import re
@@ -76,6 +77,21 @@ def edit_exists(crate, name):
     return (CRATES / crate / "must-fail" / f"{name}.edit").is_file()
 
 
+def check_edit(path, faults):
+    """Each text that an edit replaces stands once in its file."""
+    source, pairs = None, 0
+    for line in path.read_text().splitlines():
+        if line.startswith("file: "):
+            source = path.parent.parent / line.removeprefix("file: ")
+        elif line.startswith("old: "):
+            pairs += 1
+            times = source.read_text().count(line.removeprefix("old: ")) if source and source.is_file() else 0
+            if times != 1:
+                faults.append(f"edit {path.stem} of {path.parent.parent.name}: its text stands {times} times in its file")
+    if not pairs:
+        faults.append(f"edit {path.stem} of {path.parent.parent.name} replaces nothing")
+
+
 def check_row(row, function, faults):
     crate = crate_of(function)
     for name in names(row.get("once", "")):
@@ -121,6 +137,7 @@ def main():
     faults += [f"{function}: a row, but no such function" for function in sorted(listed - public)]
     page = set(names(PAGE.read_text()))
     for path in sorted(CRATES.glob("*/must-fail/*.edit")):
+        check_edit(path, faults)
         if path.stem not in page and path.parent.parent.name not in PROGRAMS:
             faults.append(f"edit {path.stem} of {path.parent.parent.name} is not named")
     print("\n".join(faults) if faults else f"docs/PROMISES.md: {len(listed)} public functions, each with its row")
