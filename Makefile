@@ -43,13 +43,13 @@ run: slotline
 audit:
 	python3 audit/promises.py
 
-# The programs of the independent second program that need no archive.
+# What needs no archive of the independent second program: its own tests, and the programs that judge job files, cases and random calls.
 judges:
+	cd second && cargo test --quiet --release --offline --lib --bin jobs
 	cd second && cargo build --quiet --release --offline --bin jobs --bin cases --bin fuzz
 
-# Its own tests, then the comparison with the archive.
+# Its comparison with the archive.
 second: lib judges
-	cd second && cargo test --quiet --release --offline
 	cd second && cargo run --quiet --release --offline
 
 # The program on many job files and on the examples, against the text of the second program's rules; then the generator
