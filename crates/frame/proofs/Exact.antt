@@ -26,7 +26,7 @@ use Rattle.frame.specs.Rule.{slotAt, frameOf, dataIn, tfciIn, commandsIn
 use Rattle.frame.specs.Outcome.{mapHead, slotFields, mapVerdict, readHead, slotDigits, readVerdict}
 use Rattle.frame.specs.Ready.{Ready}
 use Rattle.frame.specs.Exact.{Gives, Fields, Exact, ReadExact, FrameSlots, MapOnce, ReadOnce, Packs}
-use Rattle.frame.proofs.Laws.{map-head-pass, frame-length, frame-slot, data-of, tfci-of, data-in-length, tfci-in-length, commands-in-length, command-of, tfci-small}
+use Rattle.frame.proofs.Laws.{frame-length, frame-slot, data-of, tfci-of, data-in-length, tfci-in-length, commands-in-length, command-of, tfci-small}
 use Rattle.frame.proofs.Accept.{Mapped, mapped, Accepted, accepted, map-headed, read-headed}
 
 -- ---- what reading accepts, its fields give
@@ -83,7 +83,7 @@ module _ (format : ℕ) (d tfci commands : List ℕ) (m : Mapped format d tfci (
       slot-accept.mapped format k _ _ _ _
       (ap (λ (v : Verdict). v .number)
       (or-else-pass
-      (map-head-pass format k _ _ _ (m .room .format-ok) h (part-length k 15 (dataSize (formatOf format)) d h (f-ok .data-ok)) (part-length k 15 (formatOf format .tfci) tfci h (f-ok .tfci-ok)) refl)
+      (slot-accept.map-head-pass format k _ _ _ (m .room .format-ok) (omega arith) (part-length k 15 (dataSize (formatOf format)) d h (f-ok .data-ok)) (part-length k 15 (formatOf format .tfci) tfci h (f-ok .tfci-ok)) refl)
       (slot-accept.fields-pass format _ _ _ 0 0 0 (m .slots k h))))
 
   slot-digits : (k : ℕ) → k < 15 → slotDigits format (frameOf (formatOf format) d tfci commands) k ≡ done

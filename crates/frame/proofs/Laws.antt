@@ -4,14 +4,13 @@ use mathlib.Core.Path.{_≡_, refl, sym, ap, _∙_, subst}
 use mathlib.Core.List.{List}
 use Prim.Native.Nat.{ℕ, _+_, _-_, _*_, _≤_, _<_}
 use native.Mathlib.Omega.{arith}
-use borrow.Author.Tests.{le-leb, eq-eqb}
 use borrow.Rule.Slice.PartMut.{putMid, midOf}
 use lib.ListN.{length, getD, take, drop}
 use lib.Dec.{lit<}
 use Rattle.run.specs.declared.Verdict.{Verdict}
 use Rattle.run.specs.Parts.{part}
 use Rattle.run.specs.Verdicts.{done, leaves}
-use Rattle.run.proofs.Chain.{or-else-pass, unless-pass, leaves-done}
+use Rattle.run.proofs.Chain.{leaves-done}
 use Rattle.run.proofs.Front.{Front, front-part, front-lent}
 use Rattle.run.proofs.Parts.{part-room, part-next, part-length, part-lent, joined-tab-length, part-joined}
 use Rattle.run.proofs.Table.{tab-length, tab-at}
@@ -21,6 +20,7 @@ use Rattle.slot.specs.Rule.{dataSize, slotOf, commandIn}
 use Rattle.slot.specs.Outcome as slot-outcome
 use Rattle.slot.specs.Outcome.{fieldsVerdict, partVerdict}
 use Rattle.slot.specs.Ready.{Whole}
+use Rattle.slot.proofs.Accept.{map-head-pass, read-head-pass}
 use Rattle.slot.proofs.Laws as slot-laws
 use Rattle.slot.proofs.Laws.{sum, sound-format, slot-length, data-length, field-long, part-whole}
 use Rattle.frame.specs.Rule.{slotAt, frameOf, dataIn, tfciIn, commandsIn}
@@ -53,27 +53,6 @@ digits-at format xs k w r p h long e =
     e
     ∙ rw (part-lent k w (k * w) (k * w + w) xs refl refl)
     (rw p (part-whole format k (part k (formatOf format .slot) xs) (k * formatOf format .slot) (part-length k 15 (formatOf format .slot) xs h long)))
-
--- a slot's numbers and lengths pass
-pub map-head-pass : (format k dataLength tfciLength outLength : ℕ) → format ≤ 16 → k < 15 → dataLength ≡ dataSize (formatOf format) → tfciLength ≡ formatOf format .tfci
-    → outLength ≡ formatOf format .slot → slot-outcome.mapHead format k dataLength tfciLength outLength ≡ done
-unfolding slot-outcome.mapHead
-map-head-pass format k dataLength tfciLength outLength a b p q r =
-    or-else-pass (unless-pass 1 0 (le-leb _ _ a))
-    (or-else-pass (unless-pass 2 0 (le-leb k 14 (omega arith)))
-    (or-else-pass (unless-pass 3 0 (eq-eqb _ _ p))
-    (or-else-pass (unless-pass 3 1 (eq-eqb _ _ q))
-    (unless-pass 3 2 (eq-eqb _ _ r)))))
-
-pub read-head-pass : (format k slotLength dataLength tfciLength : ℕ) → format ≤ 16 → k < 15 → slotLength ≡ formatOf format .slot → dataLength ≡ dataSize (formatOf format)
-    → tfciLength ≡ formatOf format .tfci → slot-outcome.readHead format k slotLength dataLength tfciLength ≡ done
-unfolding slot-outcome.readHead
-read-head-pass format k slotLength dataLength tfciLength a b p q r =
-    or-else-pass (unless-pass 1 0 (le-leb _ _ a))
-    (or-else-pass (unless-pass 2 0 (le-leb k 14 (omega arith)))
-    (or-else-pass (unless-pass 3 0 (eq-eqb _ _ p))
-    (or-else-pass (unless-pass 3 1 (eq-eqb _ _ q))
-    (unless-pass 3 2 (eq-eqb _ _ r)))))
 
 -- the frame is made of fifteen slots
 module _ (format : ℕ) (d tfci commands : List ℕ) (data-ok : length d ≡ 15 * dataSize (formatOf format)) (tfci-ok : length tfci ≡ 15 * formatOf format .tfci) where
@@ -126,7 +105,7 @@ slot-written format d tfci commands out x y k n m w room h p q r f e =
     let d-long : length d ≡ 15 * n = f-ok .data-ok ∙ ap (λ (j : ℕ). 15 * j) (sym p) in
     let t-long : length tfci ≡ 15 * m = f-ok .tfci-ok ∙ ap (λ (j : ℕ). 15 * j) (sym q) in
     let o-long : length out ≡ 15 * w = room .frame-ok ∙ ap (λ (j : ℕ). 15 * j) (sym r) in
-    let head = map-head-pass format k _ _ _ (room .format-ok) h (lent-length k n d h d-long ∙ p) (lent-length k m tfci h t-long ∙ q) (lent-part k w h o-long f ∙ r) in
+    let head = map-head-pass format k _ _ _ (room .format-ok) (omega arith) (lent-length k n d h d-long ∙ p) (lent-length k m tfci h t-long ∙ q) (lent-part k w h o-long f ∙ r) in
     one-part k w h o-long f
     (e
     ∙ leaves-done _ _ _ (number-0 head)
@@ -187,7 +166,7 @@ module _ (format : ℕ) (xs d t c x u : List ℕ) (k n m w : ℕ) (room : Room f
   pub taken-head : slot-outcome.readHead format k (length (take (k * w + w - k * w) (drop (k * w) xs))) (length (midOf (k * n) (k * n + n - k * n) x)) (length (midOf (k * m) (k * m + m - k * m) u)) .number ≡ 0
   taken-head =
       number-0
-      (read-head-pass format k _ _ _ (room .format-ok) h (lent-length k w xs h xs-long ∙ r) (lent-part k n h d-long f ∙ p) (lent-part k m h t-long g ∙ q))
+      (read-head-pass format k _ _ _ (room .format-ok) (omega arith) (lent-length k w xs h xs-long ∙ r) (lent-part k n h d-long f ∙ p) (lent-part k m h t-long g ∙ q))
 
   pub data-taken : (y : List ℕ) → y ≡ slot.dataIn (formatOf format) (take (k * w + w - k * w) (drop (k * w) xs))
       → Front (dataIn (formatOf format) xs) d (putMid (k * n) (k * n + n - k * n) x y) ((k + 1) * n)

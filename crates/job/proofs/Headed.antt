@@ -10,7 +10,7 @@ use borrow.Author.Tests.{leb-true}
 use lib.ListN.{length, getD, take, drop}
 use Rattle.run.specs.declared.Verdict.{Verdict}
 use Rattle.run.specs.Verdicts.{orElse, leaves}
-use Rattle.run.proofs.Chain.{or-else-done, or-else-next, unless-pass, leaves-refused}
+use Rattle.run.proofs.Chain.{five-done, or-else-done, or-else-next, unless-pass, leaves-refused}
 use Rattle.run.proofs.Lent.{part-width, part-length, part-at}
 use Rattle.lines.specs.declared.Told.{Told}
 use Rattle.kinds.specs.Rule.{isKind, secondVerdict}
@@ -32,15 +32,12 @@ pub record Headed (file : List ℕ) (offset : ℕ) : Type 0 where
 pub headed : (file : List ℕ) (offset : ℕ) → recordHead file offset .number ≡ 0 → Headed file offset
 unfolding recordHead kindHead
 headed file offset h =
-    let c1 = or-else-done _ _ h in
-    let c2 = or-else-done _ _ (c1 .rest) in
-    let c3 = or-else-done _ _ (c2 .rest) in
-    let c4 = or-else-done _ _ (c3 .rest) in
+    let c = five-done _ _ _ _ _ h in
     record {
-      there = present-done file offset (c1 .first);
-      kind-ok = check-done _ _ (c2 .first);
-      second-ok = c4 .first;
-      inside = leb-true _ _ (check-done _ _ (c4 .rest));
+      there = present-done file offset (c .first);
+      kind-ok = check-done _ _ (c .second);
+      second-ok = c .fourth;
+      inside = leb-true _ _ (check-done _ _ (c .fifth));
     }
 
 -- .. so the record is whole
@@ -88,8 +85,8 @@ module _ (file line : List ℕ) (offset : ℕ) {t : Verdict} (e : t ≡ orElse (
   unfolding lineVerdict runVerdict recordVerdict
   run-is h =
       let whole = record-whole file offset (run-headed h) in
-      or-else-next _ _ (or-else-done _ _ (rw e at h) .first)
-      ∙ or-else-next _ _ (ap (λ (v : Verdict). v .number) (unless-pass 3 0 whole))
+      or-else-next _ _ (ap (λ (v : Verdict). v .number) (unless-pass 3 0 whole))
+      ∙ or-else-next _ _ (or-else-done _ _ (rw e at h) .first)
       ∙ then-next _ _ _ e refl refl h
 
   pub run-told : {end : ℕ} {told : Told} {line′ : List ℕ} {answer : Ran} → t .number ≡ 0 → end ≡ offset + sizeAt file offset → Record (recordAt file offset) line told line′

@@ -1,4 +1,4 @@
--- Document 01, 'Job file and program': the bytes of a job file. The kinds of its records and the lines that are printed stand in the crate `lines`.
+-- Document 01, 'Job file and program': the bytes of a job file. The kinds of its records stand in the crate `kinds`, and the lines that are printed in `lines`.
 -- Assumes nothing.
 use Prim.Native.Nat.{ℕ, _+_, _/_, _%_}
 use mathlib.Core.List.{List}

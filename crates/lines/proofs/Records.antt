@@ -228,7 +228,7 @@ module _ (r : List ℕ) {s : Shape} (e : s ≡ shapeOf (getD r 0 0) (secondOf r)
       rw (e, kind, eq-eqb (secondVerdict (getD r 0 0) (secondOf r) .number) 0 fit)
 
 -- ---- record: the checks of its length, then its own bytes
-module _ (r line : List ℕ) {t : Verdict} (e : t ≡ orElse (room 1 (length line)) (unless (isWhole r) lengthRefused 0)) where
+module _ (r line : List ℕ) {t : Verdict} (e : t ≡ orElse (unless (isWhole r) lengthRefused 0) (room 1 (length line))) where
   pub record-refused : (t .number ≡ 0 → ⊥) → Record r line (record { verdict = t; length = 0 }) line
   unfolding lineVerdict
   record-refused h =
@@ -238,7 +238,7 @@ module _ (r line : List ℕ) {t : Verdict} (e : t ≡ orElse (room 1 (length lin
   pub record-whole : t .number ≡ 0 → Whole r × (lineSize ≤ length line)
   record-whole h =
       let both = or-else-done _ _ (rw e at h) in
-      (whole-is r (unless-done _ 3 0 (lit< tt) (both .rest)), room-done 1 (length line) (both .first))
+      (whole-is r (unless-done _ 3 0 (lit< tt) (both .first)), room-done 1 (length line) (both .rest))
 
   pub record-writes : {told : Told} {line′ : List ℕ} → t .number ≡ 0 → Writes r line told line′ → Record r line told line′
   unfolding lineVerdict

@@ -53,9 +53,9 @@ pub record Head (count : ℕ) (line : List ℕ) (answer : Told) (line-after : Li
   pub verdict-is : answer .verdict ≡ room 0 (length line)
   pub prints : Prints (room 0 (length line)) (headLine count) line (answer .length) line-after
 
--- record: 3 (record, line), first for a line with no room, run 1, then for bytes that are no whole record, run 0; then the mapper's checks
+-- record: 3 (record, line), for bytes that are no whole record, then for a line with no room; then the mapper's checks
 unfoldable pub lineVerdict : List ℕ → ℕ → Verdict
-lineVerdict r lineLength = orElse (room 1 lineLength) (orElse (unless (isWhole r) lengthRefused 0) (mapperVerdict r))
+lineVerdict r lineLength = orElse (unless (isWhole r) lengthRefused 0) (orElse (room 1 lineLength) (mapperVerdict r))
 
 pub record Record (r line : List ℕ) (answer : Told) (line-after : List ℕ) : Type 0 where
   pub verdict-is : answer .verdict ≡ lineVerdict r (length line)

@@ -183,12 +183,12 @@ fn is_whole(r: &[u8]) -> bool
     false
 }
 
-// A line with room, and a record whose bytes are all there.
+// A record whose bytes are all there, and a line with room.
 fn ready(r: &[u8], line_length: usize) -> Verdict
-    ensures { λ v. ⌜ v ≡ orElse (room 1 «line_length») (unless (isWhole (now (r .entry))) lengthRefused 0) ⌝ }
+    ensures { λ v. ⌜ v ≡ orElse (unless (isWhole (now (r .entry))) lengthRefused 0) (room 1 «line_length») ⌝ }
 {
     let room = unless(LINE <= line_length, refusal::LENGTH, 1);
-    or_else(room, unless(is_whole(r), refusal::LENGTH, 0))
+    or_else(unless(is_whole(r), refusal::LENGTH, 0), room)
 }
 
 // The line of a record, or the refusal and the line as it was.

@@ -1,18 +1,19 @@
 -- What is known of a slot's numbers, lengths and digits where no check refuses them.
 -- Assumes nothing.
 use mathlib.Core.Path.{_≡_}
+use mathlib.Core.Bool.{Bool, true}
 use mathlib.Core.List.{List}
 use Prim.Native.Nat.{ℕ, _≤_}
 use native.Mathlib.Omega.{arith}
-use borrow.Author.Tests.{eqb-true, leb-true, le-leb}
+use borrow.Author.Tests.{eqb-true, leb-true, le-leb, eq-eqb}
 use lib.ListN.{length}
 use Rattle.run.specs.First.{Every, atMost, likeFirst, agree}
-use Rattle.run.specs.Verdicts.{done}
+use Rattle.run.specs.Verdicts.{done, orElse, unless}
 use Rattle.run.proofs.Chain.{four-done, five-done, or-else-done, unless-done, each-done, or-else-pass, unless-pass, each-pass}
 use Rattle.dpch.specs.declared.Format.{Format}
 use Rattle.dpch.specs.Formats.{formatOf, silenceAllowed}
 use Rattle.dpch.specs.Pilots.{pilotOf}
-use Rattle.slot.specs.Rule.{tpcIn, tfciIn, pilotIn, tfciStands}
+use Rattle.slot.specs.Rule.{dataSize, tpcIn, tfciIn, pilotIn, tfciStands}
 use Rattle.slot.specs.Outcome.{mapHead, fieldsVerdict, mapVerdict, readHead, digitsVerdict, readVerdict}
 use Rattle.slot.specs.Ready.{Ready}
 use Rattle.slot.proofs.Laws.{sound-format}
@@ -54,6 +55,24 @@ read-headed format slot slotLength dataLength tfciLength h =
         slot-ok = eqb-true _ _ (unless-done _ 3 0 (omega arith) (c .third));
       };
     }
+
+-- the other way: numbers and lengths that pass
+heads-pass : {a b c d e : Bool} → a ≡ true → b ≡ true → c ≡ true → d ≡ true → e ≡ true
+    → orElse (unless a 1 0) (orElse (unless b 2 0) (orElse (unless c 3 0) (orElse (unless d 3 1) (unless e 3 2)))) ≡ done
+heads-pass a b c d e =
+    or-else-pass (unless-pass 1 0 a) (or-else-pass (unless-pass 2 0 b) (or-else-pass (unless-pass 3 0 c) (or-else-pass (unless-pass 3 1 d) (unless-pass 3 2 e))))
+
+pub map-head-pass : (format slot dataLength tfciLength outLength : ℕ) → format ≤ 16 → slot ≤ 14 → dataLength ≡ dataSize (formatOf format) → tfciLength ≡ formatOf format .tfci
+    → outLength ≡ formatOf format .slot → mapHead format slot dataLength tfciLength outLength ≡ done
+unfolding mapHead
+map-head-pass format slot dataLength tfciLength outLength a b p q r =
+    heads-pass (le-leb _ _ a) (le-leb _ _ b) (eq-eqb _ _ p) (eq-eqb _ _ q) (eq-eqb _ _ r)
+
+pub read-head-pass : (format slot slotLength dataLength tfciLength : ℕ) → format ≤ 16 → slot ≤ 14 → slotLength ≡ formatOf format .slot → dataLength ≡ dataSize (formatOf format)
+    → tfciLength ≡ formatOf format .tfci → readHead format slot slotLength dataLength tfciLength ≡ done
+unfolding readHead
+read-head-pass format slot slotLength dataLength tfciLength a b p q r =
+    heads-pass (le-leb _ _ a) (le-leb _ _ b) (eq-eqb _ _ p) (eq-eqb _ _ q) (eq-eqb _ _ r)
 
 -- command, TFCI and data
 pub record FieldsOk (format tpc : ℕ) (d tfci : List ℕ) : Type 0 where

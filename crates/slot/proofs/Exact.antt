@@ -17,7 +17,7 @@ use Rattle.run.specs.Fields.{cut, joined, field, start}
 use Rattle.run.specs.Verdicts.{done, orElse, unless, leaves, Narrow}
 use Rattle.run.proofs.First.{no-diff, diff-none}
 use Rattle.run.proofs.Each.{each-take, each-drop, each-append, each-same, each-joined, all-first, first-no-dtx}
-use Rattle.run.proofs.Chain.{or-else-pass, unless-pass, or-else-narrow, unless-narrow, check-narrow, each-narrow, leaves-done, leaves-refused, one-outcome}
+use Rattle.run.proofs.Chain.{or-else-pass, or-else-narrow, unless-narrow, check-narrow, each-narrow, leaves-done, leaves-refused, one-outcome}
 use Rattle.run.proofs.Fields.{joined-cut, cut-joined, field-at, field-is, field-room}
 use Rattle.dpch.specs.declared.Format.{Format}
 use Rattle.dpch.specs.Formats.{formatOf, widths}
@@ -28,7 +28,7 @@ use Rattle.slot.specs.Outcome.{mapHead, fieldsVerdict, mapVerdict, readH
 use Rattle.slot.specs.Ready.{Sound, Whole}
 use Rattle.slot.specs.Exact.{Gives, Fields, ReadExact, SlotCuts, SlotPlaced, MapOnce, ReadOnce, Packs}
 use Rattle.slot.proofs.Laws.{sound-format, start-data1, start-tpc, start-tfci, start-data2, start-pilot, fields-widths, field-of, slot-length, field-long, data-length, data-small}
-use Rattle.slot.proofs.Accept.{fields-pass, DigitsOk, digits-pass, Mapped, mapped, accepted, map-headed, read-headed}
+use Rattle.slot.proofs.Accept.{map-head-pass, read-head-pass, fields-pass, DigitsOk, digits-pass, Mapped, mapped, accepted, map-headed, read-headed}
 
 abbrev digit : ℕ → Bool
 digit x = leb x 2
@@ -80,15 +80,11 @@ module _ (format slot : ℕ) (xs : List ℕ) (k : DigitsOk format (formatOf form
       omega arith
 
   pub read-maps : mapVerdict format slot (commandIn (formatOf format) xs) (dataIn (formatOf format) xs) (tfciIn (formatOf format) xs) (formatOf format .slot) ≡ done
-  unfolding mapVerdict mapHead
+  unfolding mapVerdict
   read-maps =
       let f = formatOf format in
       or-else-pass
-      (or-else-pass (unless-pass 1 0 (le-leb _ _ format-ok))
-      (or-else-pass (unless-pass 2 0 (le-leb _ _ slot-ok))
-      (or-else-pass (unless-pass 3 0 (eq-eqb _ _ (data-length f xs whole)))
-      (or-else-pass (unless-pass 3 1 (eq-eqb _ _ (field-long f xs whole 2 (lit< tt))))
-      (unless-pass 3 2 (eq-eqb (f .slot) (f .slot) refl))))))
+      (map-head-pass format slot _ _ (f .slot) format-ok slot-ok (data-length f xs whole) (field-long f xs whole 2 (lit< tt)) refl)
       (fields-pass format _ _ _ 0 0 0
       (record {
         tpc-ok = command-bit;
@@ -155,15 +151,11 @@ module _ (format slot tpc : ℕ) (d tfci : List ℕ) (m : Mapped format slot tpc
       record { digits = mapped-digits; alike = rw tpc-back all-alike; kinds = rw tfci-back (m .fields .tfci-kinds); pilot = diff-none _ _ _ pilot-back }
 
   pub mapped-accepted : readVerdict format slot (slotOf (formatOf format) slot tpc d tfci) (dataSize (formatOf format)) (formatOf format .tfci) ≡ done
-  unfolding readVerdict readHead
+  unfolding readVerdict
   mapped-accepted =
       let f = formatOf format in
       or-else-pass
-      (or-else-pass (unless-pass 1 0 (le-leb _ _ (m .head .format-ok)))
-      (or-else-pass (unless-pass 2 0 (le-leb _ _ (m .head .slot-ok)))
-      (or-else-pass (unless-pass 3 0 (eq-eqb _ _ mapped-length))
-      (or-else-pass (unless-pass 3 1 (eq-eqb (dataSize f) (dataSize f) refl))
-      (unless-pass 3 2 (eq-eqb (f .tfci) (f .tfci) refl))))))
+      (read-head-pass format slot _ (dataSize f) (f .tfci) (m .head .format-ok) (m .head .slot-ok) mapped-length refl refl)
       (digits-pass format f slot (slotOf f slot tpc d tfci) 0 mapped-digits-ok)
 
 number-0 : {v : Verdict} → v ≡ done → v .number ≡ 0

@@ -1,4 +1,4 @@
--- `lines::record` meets its contract: the record's own bytes are looked at where the line has room and none is missing.
+-- `lines::record` meets its contract: the mapper is asked where no byte is missing and the line has room.
 -- Assumes nothing.
 use denote.Ref.{now}
 use Rattle.lines.proofs.Records.{record-refused, record-whole, record-writes}
