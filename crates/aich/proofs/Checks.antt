@@ -3,23 +3,23 @@
 use mathlib.Core.Path.{_≡_, refl, sym, ap, _∙_}
 use mathlib.Core.Bool.{Bool, true, false}
 use mathlib.Core.List.{List}
-use Prim.Native.Nat.{ℕ, _≤_, _<_}
+use Prim.Native.Nat.{ℕ}
 use native.Mathlib.Omega.{arith}
 use borrow.Author.Tests.{eqb-true, eq-eqb}
 use lib.ListN.{length, getD}
 use lib.IntN.{ℤ, pos, negsuc}
 use Rattle.run.specs.declared.Verdict.{Verdict}
-use Rattle.run.specs.First.{firstBad, Every}
+use Rattle.run.specs.First.{Every}
 use Rattle.run.specs.Ranges.{inRange}
 use Rattle.run.specs.Refusals.{valuesRefused}
 use Rattle.run.specs.Verdicts.{refused, done, unless}
 use Rattle.run.proofs.Chain.{or-else-done, unless-done, each-done, or-else-next, or-else-refused, or-else-pass, unless-pass, leaves-done, leaves-refused}
-use Rattle.run.proofs.First.{first-none, none-first}
 use Rattle.run.proofs.Ranges.{range-parts}
 use Rattle.whole.proofs.Bound.{b-range}
 use Rattle.aich.specs.Rule.{indicatorsIn}
 use Rattle.aich.specs.Outcome.{mapVerdict, given, readHead, readVerdict, Read}
-use Rattle.aich.specs.Method.{Sixteen, halfOf, firsts, alike, fitsAt}
+use Rattle.aich.specs.Method.{Sixteen, halfOf, firsts, all, alike, fitsAt}
+use Rattle.aich.proofs.Passing.{every-all}
 use Rattle.aich.proofs.Reading.{all-alike, all-fit}
 
 -- sixteen numbers in -1 to 1
@@ -73,22 +73,19 @@ accepted values indicatorsLength h =
 
 -- ---- how `read` ends, past its head
 
--- a scan that stops before its end, where indicators that give the values would have it pass
-stops : (v : List ℤ) (ok : ℕ → Bool) (i : ℕ) → (given (indicatorsIn v) v ≡ true → Every ok 16) → i ≡ firstBad ok 16 → i < 16 → given (indicatorsIn v) v ≡ false
-stops v ok i all e h = side (given (indicatorsIn v) v) refl
+-- a pass that found a place to fail, where indicators that give the values would have it pass
+stops : (v : List ℤ) (ok : ℕ → Bool) → (given (indicatorsIn v) v ≡ true → Every ok 16) → all 16 ok ≡ false → given (indicatorsIn v) v ≡ false
+stops v ok every e = side (given (indicatorsIn v) v) refl
   where
     side : (b : Bool) → given (indicatorsIn v) v ≡ b → b ≡ false
-    side true t = absurd (let n = first-none ok 16 (all t) in let z : ⊥ = omega arith in z)
+    side true t = sym (every-all 16 ok (every t)) ∙ e
     side false t = refl
 
-pub unlike-stops : (v : List ℤ) (i : ℕ) → i ≡ firstBad (alike v) 16 → i < 16 → given (indicatorsIn v) v ≡ false
-unlike-stops v i = stops v (alike v) i (all-alike v)
+pub unlike-stops : (v : List ℤ) → all 16 (alike v) ≡ false → given (indicatorsIn v) v ≡ false
+unlike-stops v = stops v (alike v) (all-alike v)
 
-pub unfit-stops : (v sums : List ℤ) (i : ℕ) → sums ≡ halfOf (firsts v) → i ≡ firstBad (fitsAt sums) 16 → i < 16 → given (indicatorsIn v) v ≡ false
-unfit-stops v sums i e = stops v (fitsAt sums) i (λ t. rw e (all-fit v t))
-
-pub passed : (ok : ℕ → Bool) (i : ℕ) → i ≡ firstBad ok 16 → 16 ≤ i → Every ok 16
-passed ok i e h = none-first ok 16 (omega arith)
+pub unfit-stops : (v sums : List ℤ) → sums ≡ halfOf (firsts v) → all 16 (fitsAt sums) ≡ false → given (indicatorsIn v) v ≡ false
+unfit-stops v sums e = stops v (fitsAt sums) (λ t. rw e (all-fit v t))
 
 pub read-head-refused : (v x : List ℤ) → (readHead (length v) (length x) .number ≡ 0 → ⊥) → Read v x (readHead (length v) (length x)) x
 unfolding readVerdict

@@ -19,14 +19,10 @@ use Rattle.whole.proofs.Bound.{range-low, range-high}
 use Rattle.aich.specs.Rule.{valueAt, valuesOf, indicatorsIn}
 use Rattle.aich.specs.Outcome.{mapVerdict, readHead, readVerdict}
 use Rattle.aich.specs.Method.{Sixteen}
-use Rattle.aich.specs.Exact.{Rows, Gives, ReadExact, Sized, GivenSized, MapOnce, ReadOnce, Packs}
-use Rattle.aich.proofs.Signs.{sign-second, dot}
+use Rattle.aich.specs.Exact.{Gives, ReadExact, Sized, GivenSized, MapOnce, ReadOnce, Packs}
 use Rattle.aich.proofs.Laws.{entry, values-length, value-at, value-small, indicators-length, indicator-small, given-back}
 use Rattle.aich.proofs.Reading.{given-every, every-given}
 use Rattle.aich.proofs.Checks.{taken, Accepted, accepted}
-
-pub rows : Rows
-rows = record { orthogonal = dot; pairs = sign-second }
 
 number-0 : {v : Verdict} → v ≡ done → v .number ≡ 0
 number-0 e = ap (λ (v : Verdict). v .number) e

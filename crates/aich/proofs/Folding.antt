@@ -25,7 +25,8 @@ use Rattle.whole.proofs.Bits.{Reads, r-in, fits-sum, r-sum, fits-diff, r-diff}
 use Rattle.whole.proofs.Equal.{eqZ-true}
 use Rattle.whole.proofs.Laws.{distrib-r, neg-*ℤ, one-*ℤ}
 use Rattle.whole.proofs.Sum.{sum-same, sum-plus, sum-minus, sum-one}
-use Rattle.aich.specs.Rule.{isPlus, sign, valueAt}
+use Rattle.signature.specs.Rule.{isPlus, sign}
+use Rattle.aich.specs.Rule.{valueAt}
 use Rattle.aich.specs.Method.{Sixteen, foldAt, folded, halfOf}
 
 -- a row of A over x

@@ -17,9 +17,10 @@ use Rattle.whole.proofs.Bound.{b-lit, b-product}
 use Rattle.whole.proofs.Equal.{eqZ-true}
 use Rattle.whole.proofs.Laws.{*ℤ-assoc, factors}
 use Rattle.whole.proofs.Sum.{sum-same, sum-plus, sum-times, times-sum, sum-swap, sum-one, sum-pairs, sum-bound}
-use Rattle.aich.specs.Rule.{sign, valueAt, valuesOf, correlation, unit, indicatorsIn}
+use Rattle.signature.specs.Rule.{sign}
+use Rattle.aich.specs.Rule.{valueAt, valuesOf, correlation, unit, indicatorsIn}
 use Rattle.aich.specs.Method.{halfOf, firsts, fits16}
-use Rattle.aich.proofs.Signs.{sign-small, sign-half, sign-second, sign-swap, half-dot}
+use Rattle.signature.proofs.Signs.{sign-small, sign-half, sign-second, sign-swap, half-dot}
 
 abbrev pub entry : List ℤ → ℕ → ℤ
 entry x k = getD x k (pos 0)

@@ -1,5 +1,5 @@
-pub mod Signs
 pub mod Folding
+pub mod Passing
 pub mod Laws
 pub mod Reading
 pub mod Checks

@@ -1,16 +1,15 @@
--- What the reader's two scans decide: they pass exactly where the indicators read give the values.
+-- What the reader's two passes decide: they pass exactly where the indicators read give the values.
 -- Assumes nothing.
 use mathlib.Core.Path.{_≡_, refl, sym, ap, _∙_}
 use mathlib.Core.Bool.{Bool, true, false, _&&_}
 use mathlib.Core.List.{List}
 use Prim.Native.Nat.{ℕ, _+_, _*_, _/_, _%_, _<_}
 use native.Mathlib.Omega.{arith}
-use borrow.Author.Tests.{leb-true, le-leb, eqb-true, eqb-false}
+use borrow.Author.Tests.{eqb-true, eqb-false}
 use lib.Dec.{eqb, lit<}
 use lib.ListN.{length}
 use lib.IntN.{ℤ, pos, negsuc, _*ℤ_}
-use Rattle.run.specs.First.{firstBad, Every}
-use Rattle.run.proofs.First.{first-none, none-first}
+use Rattle.run.specs.First.{Every}
 use Rattle.run.proofs.Ranges.{range-parts, range-holds}
 use Rattle.run.proofs.Table.{tab-length, tab-at, tab-is}
 use Rattle.whole.specs.Bound.{Bounded}
@@ -19,7 +18,8 @@ use Rattle.whole.proofs.Bound.{b-range, range-low, range-high, times-cancel}
 use Rattle.whole.proofs.Equal.{eqZ-true, eq-eqZ}
 use Rattle.aich.specs.Rule.{valueAt, unit, indicatorsIn}
 use Rattle.aich.specs.Outcome.{agrees, given}
-use Rattle.aich.specs.Method.{Sixteen, halfOf, firsts, alike, fitsAt, unitsOf}
+use Rattle.aich.specs.Method.{Sixteen, halfOf, firsts, isPair, alike, fitsAt, unitsOf}
+use Rattle.aich.proofs.Passing.{all-every, every-all}
 use Rattle.aich.proofs.Laws.{entry, indicators-length, value-half, value-times, value-small, half-at, half-twice, unit-fits, fit-is, fit-twice, indicator-at, indicator-small, firsts-length, first-at, pairs-correlate, given-alike, given-sum}
 
 and-parts : (a b : Bool) → (a && b) ≡ true → (a ≡ true) × (b ≡ true)
@@ -29,14 +29,14 @@ and-parts false b e = absurd (let z : _≡_ {A = ℕ} 0 1 = cc in omega arith)
 -- the tests by what they say
 module _ (v : List ℤ) (k : ℕ) where
   alike-parts : alike v k ≡ true → (entry v (2 * k) ≡ entry v (2 * k + 1)) × Bounded 16 (entry v (2 * k))
-  unfolding alike
+  unfolding isPair
   alike-parts e =
       let p = and-parts (eqZ (entry v (2 * k)) (entry v (2 * k + 1))) _ e in
       let r = range-parts (negsuc 15) (pos 16) (entry v (2 * k)) (p .1) in
       (eqZ-true _ _ (p .0), b-range 15 (entry v (2 * k)) (r .0) (r .1))
 
   alike-holds : entry v (2 * k) ≡ entry v (2 * k + 1) → Bounded 16 (entry v (2 * k)) → alike v k ≡ true
-  unfolding alike
+  unfolding isPair
   alike-holds e b = rw (eq-eqZ _ _ e, range-holds (negsuc 15) (pos 16) (entry v (2 * k)) (range-low 15 _ b) (range-high 15 _ b))
 
 -- one value of each pair is small where the pairs are alike
@@ -46,13 +46,11 @@ firsts-small v like =
 
 pub given-every : (x v : List ℤ) → given x v ≡ true → (j : ℕ) → j < 32 → valueAt x j ≡ entry v j
 unfolding given
-given-every x v e j h = eqZ-true _ _ (none-first (agrees x v) 32 (leb-true 32 _ e) j h)
+given-every x v e j h = eqZ-true _ _ (all-every 32 (agrees x v) e j h)
 
 pub every-given : (x v : List ℤ) → ((j : ℕ) → j < 32 → valueAt x j ≡ entry v j) → given x v ≡ true
 unfolding given
-every-given x v is =
-    let n = first-none (agrees x v) 32 (λ j h. eq-eqZ _ _ (is j h)) in
-    le-leb 32 (firstBad (agrees x v) 32) (omega arith)
+every-given x v is = every-all 32 (agrees x v) (λ j h. eq-eqZ _ _ (is j h))
 
 pub units-length : (sums : List ℤ) → length (unitsOf sums) ≡ 16
 unfolding unitsOf
@@ -62,7 +60,7 @@ pub units-at : (sums : List ℤ) (s : ℕ) → s < 16 → entry (unitsOf sums) s
 unfolding unitsOf
 units-at sums s h = tab-at 16 (λ (t : ℕ). unit 16 (entry sums t)) s (pos 0) h
 
--- indicators give the values: both scans pass
+-- indicators give the values: both tests pass at every place
 module _ (v : List ℤ) (is : given (indicatorsIn v) v ≡ true) where
   values-are : (j : ℕ) → j < 32 → valueAt (indicatorsIn v) j ≡ entry v j
   values-are = given-every (indicatorsIn v) v is
@@ -77,7 +75,7 @@ module _ (v : List ℤ) (is : given (indicatorsIn v) v ≡ true) where
       rw (half-at (firsts v) s h, given-sum (indicatorsIn v) v values-are s h)
       (unit-fits (entry (indicatorsIn v) s) (indicator-small v s h))
 
--- both scans pass: the indicators are those of the sums, and they give the values
+-- both tests pass at every place: the indicators are those of the sums, and they give the values
 module _ (v : List ℤ) (like : Every (alike v) 16) (fit : Every (fitsAt (halfOf (firsts v))) 16) where
   pair : (k : ℕ) → k < 16 → entry v (2 * k) ≡ entry v (2 * k + 1)
   pair k h = alike-parts v k (like k h) .0

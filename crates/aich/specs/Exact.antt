@@ -1,26 +1,18 @@
--- Demand 2 for the AICH, and what else document 01 says of its signatures and values. Each statement is proved in proofs/Exact.antt under its name in
+-- Demand 2 for the AICH, and what else document 01 says of its values. Each statement is proved in proofs/Exact.antt under its name in
 -- small letters.
 -- Assumes nothing.
-use Prim.Native.Nat.{ℕ, _+_, _*_, _<_}
+use Prim.Native.Nat.{ℕ}
 use mathlib.Core.Path.{_≡_}
-use mathlib.Core.Bool.{cond}
 use mathlib.Core.List.{List}
 use mathlib.Core.Logic.{_↔_}
-use lib.Dec.{eqb}
 use lib.ListN.{length}
-use lib.IntN.{ℤ, pos, negsuc, _*ℤ_}
+use lib.IntN.{ℤ, pos, negsuc}
 use Rattle.run.specs.declared.Verdict.{Verdict}
 use Rattle.run.specs.First.{Every}
 use Rattle.run.specs.Ranges.{inRange}
 use Rattle.run.specs.Verdicts.{done, Narrow}
-use Rattle.whole.specs.Sum.{sum}
-use Rattle.aich.specs.Rule.{sign, valuesOf, indicatorsIn}
+use Rattle.aich.specs.Rule.{valuesOf, indicatorsIn}
 use Rattle.aich.specs.Outcome.{mapVerdict, Map, readVerdict, Read}
-
--- the sixteen rows of the table: two at a time they are orthogonal, and each comes in equal pairs
-pub record Rows : Type 0 where
-  pub orthogonal : (s t : ℕ) → s < 16 → t < 16 → sum 32 (λ (j : ℕ). sign s j *ℤ sign t j) ≡ cond (eqb s t) (pos 32) (pos 0)
-  pub pairs : (s k : ℕ) → sign s (2 * k + 1) ≡ sign s (2 * k)
 
 -- indicators give values: map takes them, and this is what it writes
 pub record Gives (indicators values : List ℤ) : Type 0 where

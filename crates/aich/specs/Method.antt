@@ -5,9 +5,10 @@ use Prim.Native.Nat.{ℕ, _+_, _*_, _/_, _%_, _<_}
 use mathlib.Core.Path.{_≡_}
 use mathlib.Core.Bool.{Bool, cond, _&&_, _||_}
 use mathlib.Core.List.{List}
-use lib.Dec.{eqb}
+use lib.Dec.{eqb, leb}
 use lib.ListN.{length, getD}
 use lib.IntN.{ℤ, pos, negsuc, _+ℤ_, _-ℤ_}
+use Rattle.run.specs.First.{firstBad}
 use Rattle.run.specs.Ranges.{between}
 use Rattle.run.specs.Table.{tab}
 use Rattle.whole.specs.Equal.{eqZ}
@@ -34,9 +35,17 @@ halfOf indicators = tab 16 (λ (k : ℕ). valueAt indicators (2 * k))
 unfoldable pub firsts : List ℤ → List ℤ
 firsts values = tab 16 (λ (k : ℕ). getD values (2 * k) (pos 0))
 
--- pair k is of equal values, in -16 to 16
-unfoldable pub alike : List ℤ → ℕ → Bool
-alike values k = eqZ (getD values (2 * k) (pos 0)) (getD values (2 * k + 1) (pos 0)) && between (negsuc 15) (pos 16) (getD values (2 * k) (pos 0))
+-- the test holds at all of n places
+abbrev pub all : ℕ → (ℕ → Bool) → Bool
+all n ok = leb n (firstBad ok n)
+
+-- two equal values, in -16 to 16
+unfoldable pub isPair : ℤ → ℤ → Bool
+isPair a b = eqZ a b && between (negsuc 15) (pos 16) a
+
+-- pair k is such
+abbrev pub alike : List ℤ → ℕ → Bool
+alike values k = isPair (getD values (2 * k) (pos 0)) (getD values (2 * k + 1) (pos 0))
 
 -- 16 times an indicator
 unfoldable pub fits16 : ℤ → Bool

@@ -2,10 +2,10 @@
 -- Assumes nothing.
 use Prim.Native.Nat.{ℕ}
 use mathlib.Core.Path.{_≡_}
-use mathlib.Core.Bool.{Bool, cond, _&&_}
+use mathlib.Core.Bool.{Bool}
 use mathlib.Core.List.{List}
 use lib.ListN.{length, getD}
-use lib.Dec.{eqb, leb, ltb}
+use lib.Dec.{eqb, leb}
 use lib.IntN.{ℤ, pos, negsuc}
 use Rattle.run.specs.declared.Verdict.{Verdict}
 use Rattle.run.specs.First.{firstBad}
@@ -13,11 +13,7 @@ use Rattle.run.specs.Ranges.{inRange}
 use Rattle.run.specs.Refusals.{lengthRefused, valuesRefused, rangeRefused}
 use Rattle.run.specs.Verdicts.{orElse, unless, each, leaves}
 use Rattle.whole.specs.Equal.{eqZ}
-use Rattle.aich.specs.Rule.{sign, valueAt, valuesOf, indicatorsIn}
-
--- sign: table 20 has rows 0 to 15 and columns 0 to 31; outside it the answer is 0
-unfoldable pub signAt : ℕ → ℕ → ℤ
-signAt s j = cond (ltb s 16 && ltb j 32) (sign s j) (pos 0)
+use Rattle.aich.specs.Rule.{valueAt, valuesOf, indicatorsIn}
 
 -- map: 3 (indicators, values), 11 at the index; an indicator is -1, 0 or +1
 unfoldable pub mapVerdict : List ℤ → ℕ → Verdict

@@ -1,24 +1,14 @@
--- Document 01, 'AICH'; TS 25.211, 5.3.3.7; table 20 of its draft: the signatures, the values that indicators give, and the indicators of values.
+-- Document 01, 'AICH'; TS 25.211, 5.3.3.7: the values that indicators give, and the indicators of values.
 -- Assumes nothing.
-use Prim.Native.Nat.{ℕ, _/_, _%_}
-use mathlib.Core.Bool.{Bool, cond}
+use Prim.Native.Nat.{ℕ}
+use mathlib.Core.Bool.{cond}
 use mathlib.Core.List.{List}
-use lib.Bits.{bitAnd}
-use lib.Count.{ones}
-use lib.Dec.{eqb}
 use lib.ListN.{getD}
 use lib.IntN.{ℤ, pos, negsuc, negℤ, _*ℤ_}
 use Rattle.run.specs.Table.{tab}
 use Rattle.whole.specs.Sum.{sum}
 use Rattle.whole.specs.Equal.{eqZ}
-
--- b(s, j) 'is +1 exactly when s and floor(j/2) have an even number of one bits in common'
-unfoldable pub isPlus : ℕ → ℕ → Bool
-isPlus s j = eqb (ones (bitAnd s (j / 2)) % 2) 0
-
--- b(s, j)
-unfoldable pub sign : ℕ → ℕ → ℤ
-sign s j = cond (isPlus s j) (pos 1) (negsuc 0)
+use Rattle.signature.specs.Rule.{sign}
 
 -- a(j) = sum over s of indicator(s)·b(s, j)
 unfoldable pub valueAt : List ℤ → ℕ → ℤ

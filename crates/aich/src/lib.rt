@@ -4,53 +4,10 @@ use run::or_else;
 use run::refusal;
 use run::unless;
 ghost use mathlib.Core.Path.{_≡_};
-ghost use Prim.Native.Nat.{_<_};
 ghost use lib.ListN.{length};
-ghost use Rattle.run.specs.First.{firstBad};
-ghost use Rattle.aich.specs.Rule.{isPlus, valuesOf, unit};
-ghost use Rattle.aich.specs.Outcome.{signAt, mapVerdict, Map, readHead, Read};
-ghost use Rattle.aich.specs.Method.{Sixteen, folded, halfOf, firsts, alike, fits16, fitsAt, unitsOf};
-
-// Table 20: row s is the signature b(s, 0) .. b(s, 31), + for +1 and - for -1.
-const SIGNATURES: [[u8; 32]; 16] = [
-    *b"++++++++++++++++++++++++++++++++",
-    *b"++--++--++--++--++--++--++--++--",
-    *b"++++----++++----++++----++++----",
-    *b"++----++++----++++----++++----++",
-    *b"++++++++--------++++++++--------",
-    *b"++--++----++--++++--++----++--++",
-    *b"++++--------++++++++--------++++",
-    *b"++----++--++++--++----++--++++--",
-    *b"++++++++++++++++----------------",
-    *b"++--++--++--++----++--++--++--++",
-    *b"++++----++++--------++++----++++",
-    *b"++----++++----++--++++----++++--",
-    *b"++++++++----------------++++++++",
-    *b"++--++----++--++--++--++++--++--",
-    *b"++++--------++++----++++++++----",
-    *b"++----++--++++----++++--++----++",
-];
-
-// b(s, j) is +1, as the table has it.
-fn is_plus(s: usize, j: usize) -> bool
-    requires { ⌜ (s < 16) × (j < 32) ⌝ }
-    ensures { λ r. ⌜ r ≡ isPlus s j ⌝ }
-{
-    SIGNATURES[s][j] == b'+'
-}
-
-// b(s, j), and 0 outside the table.
-pub fn sign(s: usize, j: usize) -> i32
-    ensures { λ r. ⌜ r ≡ signAt s j ⌝ }
-{
-    if 16 <= s {
-        return 0;
-    }
-    if 32 <= j {
-        return 0;
-    }
-    if is_plus(s, j) { 1 } else { -1 }
-}
+ghost use Rattle.aich.specs.Rule.{valuesOf, unit};
+ghost use Rattle.aich.specs.Outcome.{mapVerdict, Map, readHead, Read};
+ghost use Rattle.aich.specs.Method.{Sixteen, folded, halfOf, firsts, all, isPair, alike, fits16, fitsAt, unitsOf};
 
 // Entries i and i + 8 become their sum and their difference, side by side.
 fn fold(x: &[i32]) -> [i32; 16]
@@ -122,27 +79,33 @@ fn read_head(values_length: usize, indicators_length: usize) -> Verdict
     or_else(unless(values_length == 32, refusal::LENGTH, 0), second)
 }
 
-// The first pair of unlike values, or of values that no sixteen indicators reach: correlation alone would let it pass.
-fn first_unlike(values: &[i32]) -> usize
-    requires { ⌜ length (now values) ≡ 32 ⌝ }
-    ensures { λ r. ⌜ r ≡ firstBad (alike (now (values .entry))) 16 ⌝ }
+// Two equal values that sixteen indicators can reach.
+fn is_pair(a: i32, b: i32) -> bool
+    ensures { λ r. ⌜ r ≡ isPair a b ⌝ }
 {
+    if a != b {
+        return false;
+    }
+    if a < -16 {
+        return false;
+    }
+    a <= 16
+}
+
+// Whether the values come in such pairs: correlation alone would let others pass. A loop that takes no early way out can go many pairs at a time.
+fn all_alike(values: &[i32]) -> bool
+    requires { ⌜ length (now values) ≡ 32 ⌝ }
+    ensures { λ r. ⌜ r ≡ all 16 (alike (now (values .entry))) ⌝ }
+{
+    let mut good = true;
     let mut k = 0;
     while k < 16 {
-        let a = values[2 * k];
-        let b = values[2 * k + 1];
-        if a != b {
-            return k;
-        }
-        if a < -16 {
-            return k;
-        }
-        if 16 < a {
-            return k;
+        if !is_pair(values[2 * k], values[2 * k + 1]) {
+            good = false;
         }
         k += 1;
     }
-    k
+    good
 }
 
 // One value of each pair.
@@ -172,19 +135,20 @@ fn fits(sum: i32) -> bool
     sum == -16
 }
 
-// The first signature whose sum is no indicator's.
-fn first_unfit(sums: &[i32]) -> usize
+// Whether every signature's sum is an indicator's.
+fn all_fit(sums: &[i32]) -> bool
     requires { ⌜ length (now sums) ≡ 16 ⌝ }
-    ensures { λ r. ⌜ r ≡ firstBad (fitsAt (now (sums .entry))) 16 ⌝ }
+    ensures { λ r. ⌜ r ≡ all 16 (fitsAt (now (sums .entry))) ⌝ }
 {
+    let mut good = true;
     let mut s = 0;
     while s < 16 {
         if !fits(sums[s]) {
-            return s;
+            good = false;
         }
         s += 1;
     }
-    s
+    good
 }
 
 // The indicator whose sum this is.
@@ -223,12 +187,12 @@ pub fn read(values: &[i32], indicators: &mut [i32]) -> Verdict
         number: refusal::VALUES,
         place: 0,
     };
-    if first_unlike(values) < 16 {
+    if !all_alike(values) {
         return none_gives;
     }
     let each = every_second(values);
     let sums = transform(&each);
-    if first_unfit(&sums) < 16 {
+    if !all_fit(&sums) {
         return none_gives;
     }
     write_indicators(&sums, indicators);

@@ -14,7 +14,8 @@ use Rattle.whole.proofs.Bound.{b-neg, b-weaken}
 use Rattle.whole.proofs.Laws.{*ℤ-assoc, distrib-r}
 use Rattle.whole.proofs.Ring.{solve, quoted, quote-pos, ring}
 use Rattle.whole.proofs.Sum.{sum-same, sum-plus, times-sum}
-use Rattle.aich.specs.Rule.{sign, valuesOf, correlation}
+use Rattle.signature.specs.Rule.{sign}
+use Rattle.aich.specs.Rule.{valuesOf, correlation}
 use Rattle.aich.specs.Method.{Sixteen}
 use Rattle.aich.specs.Rule.{valueAt}
 use Rattle.aich.proofs.Laws.{entry, values-length, value-at, value-small, pairs-correlate, given-alike, given-sum}

@@ -17,7 +17,8 @@ use Rattle.whole.specs.Sum.{sum}
 use Rattle.whole.proofs.Bound.{range-low, range-high}
 use Rattle.whole.proofs.Laws.{*ℤ-neg}
 use Rattle.whole.proofs.Sum.{sum-same, sum-neg}
-use Rattle.aich.specs.Rule.{sign, valueAt, valuesOf}
+use Rattle.signature.specs.Rule.{sign}
+use Rattle.aich.specs.Rule.{valueAt, valuesOf}
 use Rattle.aich.proofs.Checks.{taken}
 use Rattle.aich.proofs.Laws.{entry, values-length, value-at, value-small}
 use Rattle.sttd.specs.Rule.{sttd}

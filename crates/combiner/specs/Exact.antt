@@ -10,7 +10,8 @@ use Rattle.run.specs.declared.Verdict.{Verdict}
 use Rattle.run.specs.Table.{tab}
 use Rattle.run.specs.Verdicts.{done, Narrow}
 use Rattle.whole.specs.Sum.{sum}
-use Rattle.aich.specs.Rule.{sign, valuesOf}
+use Rattle.signature.specs.Rule.{sign}
+use Rattle.aich.specs.Rule.{valuesOf}
 use Rattle.aich.specs.Outcome.{mapVerdict}
 use Rattle.sttd.specs.Rule.{sttd}
 use Rattle.sttd.specs.Outcome.{valuesVerdict}

@@ -19,9 +19,10 @@ use Rattle.whole.proofs.Bits.{Reads, r-in, fits-sum, r-sum}
 use Rattle.whole.proofs.Laws.{distrib-r}
 use Rattle.whole.proofs.Sum.{sum-same, sum-pairs}
 use Rattle.aich.specs.Method.{Sixteen, halfOf}
-use Rattle.aich.specs.Rule.{sign, valueAt, correlation}
+use Rattle.signature.specs.Rule.{sign}
+use Rattle.aich.specs.Rule.{valueAt, correlation}
 use Rattle.aich.proofs.Laws.{entry, half-at, half-length}
-use Rattle.aich.proofs.Signs.{sign-second, sign-swap}
+use Rattle.signature.proofs.Signs.{sign-second, sign-swap}
 use Rattle.correlator.specs.Method.{Parts, pairSums, correlations}
 
 -- what pair k has of the first j components

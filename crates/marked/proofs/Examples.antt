@@ -16,7 +16,8 @@ use Rattle.sttd.specs.Rule.{sttd, barDigit}
 use Rattle.sttd.specs.Outcome.{digitsVerdict}
 use Rattle.pich.specs.Rule.{isNp, qOf}
 use Rattle.pich.specs.Outcome.{qVerdict}
-use Rattle.aich.specs.Rule.{isPlus, sign, valueAt, valuesOf, correlation, unit, indicatorsIn}
+use Rattle.signature.specs.Rule.{isPlus, sign}
+use Rattle.aich.specs.Rule.{valueAt, valuesOf, correlation, unit, indicatorsIn}
 use Rattle.aich.specs.Outcome.{mapVerdict as aichVerdict, given, readHead, readVerdict as aichReadVerdict}
 use Rattle.correlator.specs.Rule.{partOf, combinedAt, combined, numberOf, numbersOf}
 use Rattle.combiner.specs.Outcome.{someGain, combineHead, combineBody, combineVerdict}

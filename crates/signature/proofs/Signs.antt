@@ -17,7 +17,7 @@ use Rattle.whole.specs.Sum.{sum}
 use Rattle.whole.proofs.Bound.{b-lit}
 use Rattle.whole.proofs.Equal.{eqZ-true}
 use Rattle.whole.proofs.Sum.{sum-same, sum-plus, sum-pairs}
-use Rattle.aich.specs.Rule.{isPlus, sign}
+use Rattle.signature.specs.Rule.{isPlus, sign}
 
 pub sign-small : (s j : ℕ) → Bounded 1 (sign s j)
 unfolding sign

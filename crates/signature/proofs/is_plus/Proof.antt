@@ -1,4 +1,4 @@
--- `aich::is_plus` meets its contract: the code's table is the rule's. antt computes the rule at all 512 entries and compares.
+-- `signature::is_plus` meets its contract: the code's table is the rule's. antt computes the rule at all 512 entries and compares.
 -- Assumes nothing.
 use mathlib.Core.Path.{_≡_, refl}
 use mathlib.Core.Bool.{Bool, true, false, cond}
@@ -10,9 +10,9 @@ use lib.Dec.{eqb}
 use lib.ListN.{getD}
 use Rattle.run.specs.Table.{tab}
 use Rattle.run.proofs.Table.{tab-at}
-use Rattle.aich.specs.Rule.{isPlus}
-use Rattle.aich.proofs.is_plus.Statement.{statement}
-use Rattle.aich.proofs.is_plus.Tie as tie
+use Rattle.signature.specs.Rule.{isPlus}
+use Rattle.signature.proofs.is_plus.Statement.{statement}
+use Rattle.signature.proofs.is_plus.Tie as tie
 
 -- the table that the rule makes, as bytes: 43 is a plus, 45 a minus
 abbrev byteAt : ℕ → ℕ → ℕ

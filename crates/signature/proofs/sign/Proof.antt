@@ -1,4 +1,4 @@
--- `aich::sign` meets its contract.
+-- `signature::sign` meets its contract.
 -- Assumes nothing.
 use mathlib.Core.Path.{_≡_, sym, _∙_}
 use mathlib.Core.Bool.{Bool, true, false, cond}
@@ -6,10 +6,10 @@ use Prim.Native.Nat.{ℕ, _<_}
 use lib.IntN.{pos, negsuc}
 use borrow.Author.Needs.{needs}
 use borrow.Author.Tests.{lt-ltb, le-ltb}
-use Rattle.aich.specs.Rule.{isPlus, sign}
-use Rattle.aich.specs.Outcome.{signAt}
-use Rattle.aich.proofs.sign.Statement.{statement}
-use Rattle.aich.proofs.sign.Tie as tie
+use Rattle.signature.specs.Rule.{isPlus, sign}
+use Rattle.signature.specs.Outcome.{signAt}
+use Rattle.signature.proofs.sign.Statement.{statement}
+use Rattle.signature.proofs.sign.Tie as tie
 
 -- inside the table
 inside : (s j : ℕ) (b : Bool) → s < 16 → j < 32 → isPlus s j ≡ b → signAt s j ≡ cond b (pos 1) (negsuc 0)
