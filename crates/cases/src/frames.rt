@@ -10,7 +10,7 @@ fn fields(commands: &[u8], tfci: &[u8], data: &[u8]) {
 }
 
 fn map(name: usize, format: usize, data: &[u8], tfci: &[u8], out: &mut [u8], commands: &[u8]) {
-    let verdict = frame::map(format, data, tfci, out, commands);
+    let verdict = frame_map::map(format, data, tfci, out, commands);
     line::begin(name, b"frame map");
     line::named(b"format", format);
     fields(commands, tfci, data);
@@ -60,7 +60,7 @@ fn sent(run: &mut [u8]) {
     let mut tfci = [0; 30];
     runs::repeat(&[0, 1, 1, 1, 0, 0, 1], &mut tfci);
     let commands = [0, 1, 0, 0, 1, 1, 0, 0, 0, 1, 1, 1, 0, 1, 1];
-    frame::map(1, &data, &tfci, run, &commands);
+    frame_map::map(1, &data, &tfci, run, &commands);
 }
 
 // That frame, read back with the digit at a place turned to another.

@@ -1,12 +1,10 @@
-// One slot of the downlink DPCH, written: document 01, 'DPCH slot'; TS 25.211, 5.3.2.
+// One slot of the downlink DPCH: its rule, promises and theorems, and the checks of numbers and lengths: document 01, 'DPCH slot'; TS 25.211, 5.3.2.
 use run::Verdict;
 use run::or_else;
 use run::refusal;
 use run::unless;
 ghost use mathlib.Core.Path.{_≡_};
-ghost use Rattle.slot.specs.Outcome.{mapHead, Put};
-
-mod fields;
+ghost use Rattle.slot.specs.Outcome.{mapHead};
 
 // What `read` answers: the TPC command, 0 where refused.
 pub struct Command {
@@ -33,17 +31,4 @@ pub fn map_head(
     );
     let numbers = or_else(unless(slot <= 14, refusal::SLOT, 0), lengths);
     or_else(unless(format <= 16, refusal::FORMAT, 0), numbers)
-}
-
-// The slot of the fields with no look at their digits, or the refusal and `out` as it was.
-pub fn put(format: usize, slot: usize, tpc: u8, data: &[u8], tfci: &[u8], out: &mut [u8]) -> Verdict
-    ensures { λ r. ⌜ Put format slot tpc (now («data» .entry)) (now (tfci .entry)) (now (out .entry)) r (now (out .exit)) ⌝ }
-{
-    let head = map_head(format, slot, data.len(), tfci.len(), out.len());
-    if head.number != 0 {
-        return head;
-    }
-    let f = dpch::format_of(format);
-    fields::write(f, slot, tpc, data, tfci, out);
-    head
 }

@@ -1,4 +1,4 @@
-// One slot of the downlink DPCH, mapped: its fields are checked, and then written by the crate `slot`, where rule, promises and theorems stand:
+// One slot of the downlink DPCH, mapped: its fields are checked, and then written by `slot_put` (rule, promises and theorems are those of the crate `slot`):
 // document 01, 'DPCH slot'; TS 25.211, 5.3.2.
 use run::DTX;
 use run::Verdict;
@@ -91,6 +91,6 @@ pub fn map(
     if verdict.number != 0 {
         return verdict;
     }
-    slot::put(format, slot, tpc as u8, data, tfci, out);
+    slot_put::put(format, slot, tpc as u8, data, tfci, out);
     verdict
 }

@@ -12,7 +12,7 @@ pub extern "C" fn slt_frame_map(
 ) -> u64
     ensures { λ r. ⌜ FrameMap format (now («data» .entry)) (now (tfci .entry)) (now (out .entry)) (now (commands .entry)) r (now (out .exit)) ⌝ }
 {
-    pack(frame::map(format, data, tfci, out, commands), 0)
+    pack(frame_map::map(format, data, tfci, out, commands), 0)
 }
 
 #[no_mangle]

@@ -1,13 +1,15 @@
-// The fields of a slot: each is written into its own stretch of the slot.
+// One slot of the downlink DPCH, written (rule, promises and theorems are those of the crate `slot`): document 01, 'DPCH slot'; TS 25.211, 5.3.2.
 use dpch::Format;
+use run::Verdict;
 use write::copy;
 use write::fill;
 ghost use mathlib.Core.Path.{_≡_};
 ghost use lib.ListN.{length};
 ghost use Rattle.run.specs.Written.{over};
 ghost use Rattle.dpch.specs.Pilots.{pilotSource};
 ghost use Rattle.slot.specs.Rule.{slotOf};
 ghost use Rattle.slot.specs.Ready.{Ready};
+ghost use Rattle.slot.specs.Outcome.{Put};
 
 // The pilot of a slot, as long as the field.
 fn write_pilot(dst: &mut [u8], slot: usize)
@@ -22,7 +24,7 @@ fn write_pilot(dst: &mut [u8], slot: usize)
 }
 
 // The five fields, each into its own stretch. A copy goes as far as the field.
-pub(crate) fn write(f: Format, slot: usize, tpc: u8, data: &[u8], tfci: &[u8], out: &mut [u8])
+fn write(f: Format, slot: usize, tpc: u8, data: &[u8], tfci: &[u8], out: &mut [u8])
     requires { ⌜ Ready f (length (now «data»)) (length (now tfci)) (length (now out)) ⌝ }
     ensures { λ _. ⌜ now (out .exit) ≡ slotOf f slot tpc (now («data» .entry)) (now (tfci .entry)) ⌝ }
 {
@@ -36,4 +38,17 @@ pub(crate) fn write(f: Format, slot: usize, tpc: u8, data: &[u8], tfci: &[u8], o
     copy(&mut out[b..c], tfci);
     copy(&mut out[c..d], &data[a..]);
     write_pilot(&mut out[d..e], slot);
+}
+
+// The slot of the fields with no look at their digits, or the refusal and `out` as it was.
+pub fn put(format: usize, slot: usize, tpc: u8, data: &[u8], tfci: &[u8], out: &mut [u8]) -> Verdict
+    ensures { λ r. ⌜ Put format slot tpc (now («data» .entry)) (now (tfci .entry)) (now (out .entry)) r (now (out .exit)) ⌝ }
+{
+    let head = slot::map_head(format, slot, data.len(), tfci.len(), out.len());
+    if head.number != 0 {
+        return head;
+    }
+    let f = dpch::format_of(format);
+    write(f, slot, tpc, data, tfci, out);
+    head
 }

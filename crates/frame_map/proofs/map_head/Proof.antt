@@ -1,11 +1,11 @@
--- `frame::map_head` meets its contract: the chain of checks is the definition's.
+-- `frame_map::map_head` meets its contract: the chain of checks is the definition's.
 -- Assumes nothing.
 use mathlib.Core.Path.{_∙_}
 use Rattle.run.proofs.Chain.{or-else-is}
 use Rattle.frame.specs.Outcome.{mapHead}
 use borrow.Author.Needs.{needs}
-use Rattle.frame.proofs.map_head.Statement.{statement}
-use Rattle.frame.proofs.map_head.Tie as tie
+use Rattle.frame_map.proofs.map_head.Statement.{statement}
+use Rattle.frame_map.proofs.map_head.Tie as tie
 
 sizes-of-requires : tie.Need-sizes-of-requires
 sizes-of-requires c κs = search needs

@@ -1,13 +1,13 @@
--- `slot::fields::write` meets its contract: five parts of the slot's run, lent one after the other.
+-- `slot_put::write` meets its contract: five parts of the slot's run, lent one after the other.
 -- Assumes nothing.
 use mathlib.Core.Path.{_≡_}
 use Prim.Native.Nat.{_+_, _≤_}
 use native.Mathlib.Omega.{arith}
 use denote.Ref.{now}
 use Rattle.slot.proofs.Laws.{sum, rest-of, all-written}
 use borrow.Author.Needs.{needs}
-use Rattle.slot.proofs.fields.write.Statement.{statement}
-use Rattle.slot.proofs.fields.write.Tie as tie
+use Rattle.slot_put.proofs.write.Statement.{statement}
+use Rattle.slot_put.proofs.write.Tie as tie
 
 sums : (c : tie.Start) → (c .args .f .data1 + c .args .f .tpc + c .args .f .tfci + c .args .f .data2 + c .args .f .pilot ≡ c .args .f .slot) × (c .args .f .slot ≤ 1280)
 sums c = (sum _ (c .pre .sound), c .pre .sound .short)

@@ -1,11 +1,11 @@
--- `slot::fields::write_pilot` meets its contract.
+-- `slot_put::write_pilot` meets its contract.
 -- Assumes nothing.
 use mathlib.Core.Path.{_∙_}
 use borrow.Author.Tests.{eq-eqb, ne-eqb}
 use Rattle.dpch.specs.Pilots.{pilotSource}
 use borrow.Author.Needs.{needs}
-use Rattle.slot.proofs.fields.write_pilot.Statement.{statement}
-use Rattle.slot.proofs.fields.write_pilot.Tie as tie
+use Rattle.slot_put.proofs.write_pilot.Statement.{statement}
+use Rattle.slot_put.proofs.write_pilot.Tie as tie
 
 pilot-row-requires : tie.Need-pilot-row-requires
 pilot-row-requires c κs = search needs

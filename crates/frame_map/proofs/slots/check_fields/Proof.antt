@@ -1,4 +1,4 @@
--- `frame::slots::check_fields` meets its contract: slot by slot, up to the first that is refused.
+-- `frame_map::slots::check_fields` meets its contract: slot by slot, up to the first that is refused.
 -- Assumes nothing.
 use mathlib.Core.Path.{_≡_, sym, _∙_}
 use Prim.Native.Nat.{ℕ, _+_, _-_, _*_, _≤_, _<_}
@@ -9,10 +9,10 @@ use borrow.Author.Needs.{needs}
 use denote.Ref.{now}
 use Rattle.run.proofs.Chain.{chain-end, chain-hit}
 use Rattle.run.proofs.Parts.{part-room}
 use Rattle.frame.specs.Outcome.{slotFields}
 use Rattle.frame.proofs.Laws.{fields-at}
-use Rattle.frame.proofs.slots.check_fields.Statement.{statement}
-use Rattle.frame.proofs.slots.check_fields.Tie as tie
+use Rattle.frame_map.proofs.slots.check_fields.Statement.{statement}
+use Rattle.frame_map.proofs.slots.check_fields.Tie as tie
 
 abbrev Inv-loop : tie.InvT-loop
 Inv-loop format «data» tfci commands n m k₀ k = (k ≤ 15) × ((j : ℕ) → j < k → slotFields format «data» tfci commands j .number ≡ 0)

@@ -1,11 +1,11 @@
--- `frame::map` meets its contract.
+-- `frame_map::map` meets its contract.
 -- Assumes nothing.
 use mathlib.Core.Path.{sym, _∙_}
 use Rattle.run.proofs.Chain.{leaves-done, leaves-refused}
 use Rattle.frame.proofs.Accept.{mapped}
 use borrow.Author.Needs.{needs}
-use Rattle.frame.proofs.map.Statement.{statement}
-use Rattle.frame.proofs.map.Tie as tie
+use Rattle.frame_map.proofs.map.Statement.{statement}
+use Rattle.frame_map.proofs.map.Tie as tie
 
 map-verdict-requires : tie.Need-map-verdict-requires
 map-verdict-requires c κs = search needs

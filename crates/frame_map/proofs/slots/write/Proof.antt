@@ -1,4 +1,4 @@
--- `frame::slots::write` meets its contract: each turn writes one slot more.
+-- `frame_map::slots::write` meets its contract: each turn writes one slot more.
 -- Assumes nothing.
 use mathlib.Core.Path.{_≡_, sym, _∙_}
 use Prim.Native.Nat.{_+_, _-_, _*_, _≤_}
@@ -9,21 +9,21 @@ use denote.Ref.{now}
 use Rattle.run.proofs.Front.{Front, front-none, front-length, front-all}
 use Rattle.run.proofs.Parts.{part-room}
 use Rattle.dpch.specs.Formats.{formatOf}
 use Rattle.frame.specs.Rule.{frameOf}
 use Rattle.frame.proofs.Laws.{frame-length, slot-written}
-use Rattle.frame.proofs.slots.write.Statement.{statement}
-use Rattle.frame.proofs.slots.write.Tie as tie
+use Rattle.frame_map.proofs.slots.write.Statement.{statement}
+use Rattle.frame_map.proofs.slots.write.Tie as tie
 
 abbrev Inv-loop : tie.InvT-loop
-Inv-loop format «data» tfci out₀ commands n m w k₀ out k = (k ≤ 15) × Front (frameOf (formatOf format) «data» tfci commands) out₀ out (k * w)
+Inv-loop format «data» tfci out₀ commands n m w slot₀ out slot = (slot ≤ 15) × Front (frameOf (formatOf format) «data» tfci commands) out₀ out (slot * w)
 
 abbrev μ-loop : tie.MeasureT-loop
-μ-loop format «data» tfci out₀ commands n m w k₀ out k = 15 - k
+μ-loop format «data» tfci out₀ commands n m w slot₀ out slot = 15 - slot
 
 rooms : (c : tie.In-loop Inv-loop μ-loop)
-    → (c .before .loop .k * c .before .before .sizes-of .result .«data» + c .before .before .sizes-of .result .«data» ≤ 15 * c .before .before .sizes-of .result .«data»)
-    × (c .before .loop .k * c .before .before .sizes-of .result .tfci + c .before .before .sizes-of .result .tfci ≤ 15 * c .before .before .sizes-of .result .tfci)
-    × (c .before .loop .k * c .before .before .sizes-of .result .slot + c .before .before .sizes-of .result .slot ≤ 15 * c .before .before .sizes-of .result .slot)
+    → (c .before .loop .slot * c .before .before .sizes-of .result .«data» + c .before .before .sizes-of .result .«data» ≤ 15 * c .before .before .sizes-of .result .«data»)
+    × (c .before .loop .slot * c .before .before .sizes-of .result .tfci + c .before .before .sizes-of .result .tfci ≤ 15 * c .before .before .sizes-of .result .tfci)
+    × (c .before .loop .slot * c .before .before .sizes-of .result .slot + c .before .before .sizes-of .result .slot ≤ 15 * c .before .before .sizes-of .result .slot)
 rooms c = (part-room _ 15 _ (c .loop-test .taken), part-room _ 15 _ (c .loop-test .taken), part-room _ 15 _ (c .loop-test .taken))
 
 sizes-of-requires : tie.Need-sizes-of-requires Inv-loop μ-loop
@@ -83,8 +83,8 @@ part-put-end-3 c = omega (arith, rooms (c .before .before .before), c .before .b
 put-requires : tie.Need-put-requires Inv-loop μ-loop
 put-requires c κs = search needs
 
-add-k : tie.Need-add-k Inv-loop μ-loop
-add-k c = omega arith
+add-slot : tie.Need-add-slot Inv-loop μ-loop
+add-slot c = omega arith
 
 loop-less : tie.Need-loop-less Inv-loop μ-loop
 loop-less c = omega arith
@@ -102,8 +102,8 @@ same-length c = front-length (c .before .loop .inv .1)
 
 returns : tie.Need-returns Inv-loop μ-loop
 returns c =
-    let all : c .before .loop .k ≡ 15 = omega arith in
-    let end : c .before .loop .k * c .before .before .sizes-of .result .slot ≡ 15 * formatOf (c .before .before .before .before .before .before .before .args .format) .slot = rw (all, c .before .before .sizes-of .ensures .slot-is) in
+    let all : c .before .loop .slot ≡ 15 = omega arith in
+    let end : c .before .loop .slot * c .before .before .sizes-of .result .slot ≡ 15 * formatOf (c .before .before .before .before .before .before .before .args .format) .slot = rw (all, c .before .before .sizes-of .ensures .slot-is) in
     let room = c .before .before .before .before .before .before .before .pre .frame-ok in
     front-all (c .before .loop .inv .1) (omega arith)
 
@@ -132,7 +132,7 @@ write-spec =
     part-put-start-3
     part-put-end-3
     put-requires
-    add-k
+    add-slot
     loop-less
     loop-again
     same-length

@@ -1,11 +1,11 @@
--- `slot::put` meets its contract.
+-- `slot_put::put` meets its contract.
 -- Assumes nothing.
 use mathlib.Core.Path.{sym, _∙_}
 use Rattle.run.proofs.Chain.{leaves-done, leaves-refused}
 use Rattle.slot.proofs.Accept.{map-headed}
 use borrow.Author.Needs.{needs}
-use Rattle.slot.proofs.put.Statement.{statement}
-use Rattle.slot.proofs.put.Tie as tie
+use Rattle.slot_put.proofs.put.Statement.{statement}
+use Rattle.slot_put.proofs.put.Tie as tie
 
 map-head-requires : tie.Need-map-head-requires
 map-head-requires c κs = search needs

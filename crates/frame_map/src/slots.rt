@@ -1,13 +1,13 @@
 // The fifteen slots of a frame, one after the other: each is lent its own part of every run.
-use crate::sizes_of;
+use frame::sizes_of;
 use run::Verdict;
 ghost use mathlib.Core.Path.{_≡_};
 ghost use lib.ListN.{length};
 ghost use Rattle.run.specs.Verdicts.{chain};
 ghost use Rattle.dpch.specs.Formats.{formatOf};
 ghost use Rattle.frame.specs.Rule.{frameOf};
 ghost use Rattle.frame.specs.Outcome.{slotFields};
 ghost use Rattle.frame.specs.Ready.{Ready, Room};
 
 // The first slot whose command, TFCI or data is refused.
 pub(crate) fn check_fields(format: usize, data: &[u8], tfci: &[u8], commands: &[u8]) -> Verdict
@@ -53,22 +53,22 @@ pub(crate) fn write(format: usize, data: &[u8], tfci: &[u8], out: &mut [u8], com
     let n = s.data;
     let m = s.tfci;
     let w = s.slot;
-    let mut k = 0;
-    while k < 15 {
-        let a = k * n;
+    let mut slot = 0;
+    while slot < 15 {
+        let a = slot * n;
         let e = a + n;
-        let b = k * m;
+        let b = slot * m;
         let c = b + m;
-        let i = k * w;
+        let i = slot * w;
         let j = i + w;
-        slot::put(
+        slot_put::put(
             format,
-            k,
-            commands[k],
+            slot,
+            commands[slot],
             &data[a..e],
             &tfci[b..c],
             &mut out[i..j],
         );
-        k += 1;
+        slot += 1;
     }
 }

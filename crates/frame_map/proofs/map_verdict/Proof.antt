@@ -1,12 +1,12 @@
--- `frame::map_verdict` meets its contract.
+-- `frame_map::map_verdict` meets its contract.
 -- Assumes nothing.
 use mathlib.Core.Path.{sym, _∙_}
 use Rattle.run.proofs.Chain.{or-else-refused, or-else-next}
 use Rattle.frame.specs.Outcome.{mapVerdict}
 use Rattle.frame.proofs.Accept.{map-headed}
 use borrow.Author.Needs.{needs}
-use Rattle.frame.proofs.map_verdict.Statement.{statement}
-use Rattle.frame.proofs.map_verdict.Tie as tie
+use Rattle.frame_map.proofs.map_verdict.Statement.{statement}
+use Rattle.frame_map.proofs.map_verdict.Tie as tie
 
 map-head-requires : tie.Need-map-head-requires
 map-head-requires c κs = search needs
