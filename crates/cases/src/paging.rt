@@ -17,7 +17,7 @@ fn q(name: usize, np: usize, sfn: usize, pi: usize) {
 }
 
 fn map(name: usize, np: usize, indicators: &[u8], frame: &mut [u8]) {
-    let verdict = pich::map(np, indicators, frame);
+    let verdict = pich_map::map(np, indicators, frame);
     line::begin(name, b"PICH map");
     line::named(b"Np", np);
     line::run(b"indicators", indicators);
@@ -78,7 +78,7 @@ fn mapping() {
 fn read_damaged(name: usize, np: usize, place: usize, digit: u8) {
     let mut frame = [MARK; 300];
     let given = [0, 1, 0, 1, 1, 1, 0, 1, 0, 0, 0, 1, 0, 1, 1, 0, 0, 1];
-    pich::map(18, &given, &mut frame);
+    pich_map::map(18, &given, &mut frame);
     runs::put(&mut frame, place, digit);
     let mut indicators = [MARK; 18];
     read(name, np, &frame, &mut indicators);

@@ -25,7 +25,7 @@ use Rattle.slot.proofs.Exact as slot-exact
 use Rattle.frame.specs.Rule.{slotAt, frameOf, dataIn, tfciIn, commandsIn}
 use Rattle.frame.specs.Outcome.{mapHead, slotFields, mapVerdict, readHead, slotDigits, readVerdict}
 use Rattle.frame.specs.Ready.{Ready}
-use Rattle.frame.specs.Exact.{Gives, Fields, Exact, ReadExact, FrameSlots, MapOnce, ReadOnce, Packs}
+use Rattle.frame.specs.Exact.{Gives, Fields, ReadExact, FrameSlots, MapOnce, ReadOnce, Packs}
 use Rattle.frame.proofs.Laws.{frame-length, frame-slot, data-of, tfci-of, data-in-length, tfci-in-length, commands-in-length, command-of, tfci-small}
 use Rattle.frame.proofs.Accept.{Mapped, mapped, Accepted, accepted, map-headed, read-headed}
 

@@ -21,7 +21,6 @@ use Rattle.slot.specs.Outcome as slot-outcome
 use Rattle.slot.specs.Outcome.{fieldsVerdict, partVerdict}
 use Rattle.slot.specs.Ready.{Whole}
 use Rattle.slot.proofs.Accept.{map-head-pass, read-head-pass}
-use Rattle.slot.proofs.Laws as slot-laws
 use Rattle.slot.proofs.Laws.{sum, sound-format, slot-length, data-length, field-long, part-whole}
 use Rattle.frame.specs.Rule.{slotAt, frameOf, dataIn, tfciIn, commandsIn}
 use Rattle.frame.specs.Outcome.{slotFields, slotDigits}

@@ -21,7 +21,7 @@ pub(crate) fn check_digits(format: usize, xs: &[u8]) -> Verdict
     while k < 15 {
         let i = k * w;
         let j = i + w;
-        let verdict = slot_read::part_verdict(format, k, &xs[i..j], i as u32);
+        let verdict = slot_check::part_verdict(format, k, &xs[i..j], i as u32);
         if verdict.number != 0 {
             return verdict;
         }

@@ -115,7 +115,7 @@ fn pich_record(r: &[u8], line: &mut [u8]) -> Told
     let np = r[1] as usize;
     let n = r.len();
     let mut frame = [0u8; 300];
-    let verdict = pich::map(np, &r[2..n], &mut frame);
+    let verdict = pich_map::map(np, &r[2..n], &mut frame);
     if verdict.number != 0 {
         return Told { verdict, length: 0 };
     }

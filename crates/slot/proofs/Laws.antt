@@ -3,22 +3,21 @@
 use mathlib.Core.Path.{_≡_, refl, sym, ap, _∙_}
 use mathlib.Core.Bool.{Bool, true, false, not, _&&_, _||_, Bool·beq}
 use mathlib.Core.List.{List, [], map}
-use Prim.Native.Nat.{ℕ, _+_, _-_, _≤_, _<_, min}
+use Prim.Native.Nat.{ℕ, _+_, _-_, _≤_, _<_}
 use native.Mathlib.Nat.{not-suc-le-zero, add-zero}
 use native.Mathlib.Omega.{arith}
 use borrow.Rule.Slice.PartMut.{putMid, midOf}
 use lib.ListN.{length, getD, take, drop, replicate, length-append, length-drop, length-replicate}
-use lib.Seq.{length-take-le, take-all, take-at, drop-at, getD-take}
-use lib.Dec.{eqb, leb, lit<}
+use lib.Seq.{length-take-le, take-all, take-at, drop-at}
+use lib.Dec.{eqb, lit<}
 use borrow.Author.Tests.{eq-eqb, ne-eqb}
 use Rattle.run.specs.declared.Verdict.{Verdict}
 use Rattle.run.specs.Digits.{dtx}
-use Rattle.run.specs.First.{firstBad, agree, isAt, notAt}
-use Rattle.run.specs.Verdicts.{unless, each}
+use Rattle.run.specs.First.{firstBad, isAt, notAt}
 use Rattle.run.specs.Fields.{total, field, start}
 use Rattle.run.specs.Written.{over}
 use Rattle.run.proofs.First.{first-is, first-same}
-use Rattle.run.proofs.Chain.{each-is, or-else-next, unless-pass}
+use Rattle.run.proofs.Chain.{or-else-next, unless-pass}
 use Rattle.run.proofs.Fields.{joined-length, field-is, field-lent, field-joined, field-length, field-at}
 use Rattle.run.proofs.Over.{over-whole}
 use Rattle.run.proofs.Front.{Front, front-none, front-fill, front-copy, front-lent, front-all}
@@ -26,7 +25,7 @@ use Rattle.dpch.specs.declared.Format.{Format}
 use Rattle.dpch.specs.Formats.{formatOf, widths}
 use Rattle.dpch.specs.Pilots.{pilotSource, pilotOf}
 use Rattle.dpch.proofs.Exact.{fields-fill, format-sizes, format-pilots}
-use Rattle.slot.specs.Rule.{dataSize, fieldsOf, slotOf, tfciIn, pilotIn, dataIn, commandIn, tfciStands}
+use Rattle.slot.specs.Rule.{dataSize, fieldsOf, slotOf, tfciIn, dataIn, commandIn, tfciStands}
 use Rattle.slot.specs.Outcome.{digitsVerdict, partVerdict}
 use Rattle.slot.specs.Ready.{Sound, Whole}
 
@@ -188,16 +187,6 @@ module _ (f : Format) (s : Sound f) (slot tpc : ℕ) (d tfci : List ℕ) (data-l
 pub rest-of : (a : ℕ) (xs : List ℕ) → take (length xs - a) (drop a xs) ≡ drop a xs
 rest-of a xs = take-all (length xs - a) (drop a xs) (simp length-drop (omega arith))
 
--- a check of field k as it is lent from a to e
-module _ (f : Format) (xs : List ℕ) (k a e : ℕ) (h : k < 5) (p : a ≡ start k (widths f)) (q : e ≡ a + getD (widths f) k 0) where
-  pub check-field : (base number : ℕ) (ok : List ℕ → ℕ → Bool) (i : ℕ) (r : Verdict)
-      → i ≡ firstBad (ok (take (e - a) (drop a xs))) (length (take (e - a) (drop a xs)))
-      → r ≡ unless (leb (length (take (e - a) (drop a xs))) i) number (base + a + i)
-      → r ≡ each (base + start k (widths f)) number (ok (field k (widths f) xs)) (length (field k (widths f) xs))
-  check-field base number ok i r found is =
-      rw (← field-lent k a e (widths f) xs h p q, ← p)
-      (each-is (base + a) number (ok (take (e - a) (drop a xs))) (length (take (e - a) (drop a xs))) i r found is)
-
 -- the fields of a whole slot have their lengths
 module _ (f : Format) (xs : List ℕ) (w : Whole f (length xs)) where
   pub field-long : (k : ℕ) → k < 5 → length (field k (widths f) xs) ≡ getD (widths f) k 0
@@ -205,9 +194,6 @@ module _ (f : Format) (xs : List ℕ) (w : Whole f (length xs)) where
       let fills = w .sound .fills in
       let long = w .slot-ok in
       field-length k (widths f) xs h (omega arith)
-
-  pub lent-long : (k a e : ℕ) → k < 5 → a ≡ start k (widths f) → e ≡ a + getD (widths f) k 0 → length (take (e - a) (drop a xs)) ≡ getD (widths f) k 0
-  lent-long k a e h p q = ap length (field-lent k a e (widths f) xs h p q) ∙ field-long k h
 
   -- the first TPC digit stands where Data1 ends
   pub command-at : 0 < f .tpc → getD xs (f .data1) 0 ≡ commandIn f xs
@@ -256,31 +242,6 @@ data-small format =
     let n = sum (formatOf format) s in
     let short = s .short in
     omega arith
-
--- a pilot field is compared with the pilot
-pub pilot-scan : (f : Format) (s : Sound f) (slot : ℕ) (xs : List ℕ) → length xs ≡ f .pilot
-    → firstBad (agree xs (pilotSource (length xs) slot)) (min (length xs) (length (pilotSource (length xs) slot)))
-    ≡ firstBad (agree xs (pilotOf (f .pilot) slot)) (length xs)
-pilot-scan f s slot xs long =
-    let p = s .pilot slot in
-    let room : length xs ≤ length (pilotSource (length xs) slot) = rw long (p .enough) in
-    let all : min (length xs) (length (pilotSource (length xs) slot)) ≡ length xs = omega arith in
-    rw all
-    (first-same _ _ (length xs)
-    (λ k h.
-    let below : k < f .pilot = rw long at h in
-    ap (λ (x : ℕ). eqb (getD xs k 0) x)
-    (ap (λ (n : ℕ). getD (pilotSource n slot) k 0) long
-    ∙ sym (ap (λ (l : List ℕ). getD l k 0) (p .cut-from) ∙ getD-take (f .pilot) (pilotSource (f .pilot) slot) k 0 below))))
-
-pub check-pilot : (f : Format) (xs : List ℕ) (w : Whole f (length xs)) (slot a e : ℕ) → a ≡ start 4 (widths f) → e ≡ a + f .pilot → (base number i : ℕ) (r : Verdict)
-    → i ≡ firstBad (agree (take (e - a) (drop a xs)) (pilotSource (length (take (e - a) (drop a xs))) slot))
-    (min (length (take (e - a) (drop a xs))) (length (pilotSource (length (take (e - a) (drop a xs))) slot)))
-    → r ≡ unless (leb (length (take (e - a) (drop a xs))) i) number (base + a + i)
-    → r ≡ each (base + start 4 (widths f)) number (agree (pilotIn f xs) (pilotOf (f .pilot) slot)) (length (pilotIn f xs))
-check-pilot f xs w slot a e p q base number i r found is =
-    check-field f xs 4 a e (lit< tt) p q base number (λ (s : List ℕ). agree s (pilotOf (f .pilot) slot)) i r
-    (found ∙ pilot-scan f (w .sound) slot (take (e - a) (drop a xs)) (lent-long f xs w 4 a e (lit< tt) p q)) is
 
 -- the TFCI rule where the first digit is a bit, where it is DTX and may be, and where it may not
 module _ (tfci : List ℕ) where

@@ -1,11 +1,12 @@
-// One slot of the downlink DPCH, read (rule, promises and theorems are those of the crate `slot`): document 01, 'DPCH slot'; TS 25.211, 5.3.2.
+// One slot of the downlink DPCH, read: its digits are checked by the crate `slot_check`, and then its fields are taken. Rule, promises and theorems are those of
+// the crate `slot`: document 01, 'DPCH slot'; TS 25.211, 5.3.2.
 use run::Verdict;
 use run::or_else;
 use run::refusal;
 use run::unless;
 use slot::Command;
 ghost use mathlib.Core.Path.{_≡_};
-ghost use Rattle.slot.specs.Outcome.{readHead, partVerdict, readVerdict, Read, Take};
+ghost use Rattle.slot.specs.Outcome.{readHead, readVerdict, Read, Take};
 
 mod fields;
 
@@ -30,20 +31,6 @@ fn read_head(
     or_else(unless(format <= 16, refusal::FORMAT, 0), numbers)
 }
 
-// The checks of a slot's digits, which count their places from `base`.
-pub fn part_verdict(format: usize, slot: usize, xs: &[u8], base: u32) -> Verdict
-    ensures { λ r. ⌜ r ≡ partVerdict format slot (now (xs .entry)) base ⌝ }
-{
-    let f = dpch::format_of(format);
-    if xs.len() != f.slot {
-        return Verdict {
-            number: refusal::LENGTH,
-            place: 0,
-        };
-    }
-    fields::check(format, f, slot, xs, base)
-}
-
 fn read_verdict(
     format: usize,
     slot: usize,
@@ -57,7 +44,7 @@ fn read_verdict(
     if head.number != 0 {
         return head;
     }
-    part_verdict(format, slot, xs, 0)
+    slot_check::part_verdict(format, slot, xs, 0)
 }
 
 // The fields of a slot with no look at their digits, or the refusal and the runs as they were.

@@ -1,4 +1,4 @@
-// PICH for a C host: each call is that of the crates `pich` and `pich_read`, with the answer packed in one number (docs/INTERFACE.md).
+// PICH for a C host: each call is that of the crates `pich`, `pich_map` and `pich_read`, with the answer packed in one number (docs/INTERFACE.md).
 use packed::pack;
 use pich::Pi;
 ghost use Rattle.slt_pich.specs.Outcome.{PichQ, PichMap, PichRead};
@@ -17,7 +17,7 @@ pub extern "C" fn slt_pich_q(np: usize, pi: usize, sfn: usize) -> u64
 pub extern "C" fn slt_pich_map(np: usize, indicators: &[u8], frame: &mut [u8]) -> u64
     ensures { λ r. ⌜ PichMap np (now (indicators .entry)) (now (frame .entry)) r (now (frame .exit)) ⌝ }
 {
-    pack(pich::map(np, indicators, frame), 0)
+    pack(pich_map::map(np, indicators, frame), 0)
 }
 
 #[no_mangle]

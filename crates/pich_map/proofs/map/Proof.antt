@@ -1,11 +1,11 @@
--- `pich::map` meets its contract.
+-- `pich_map::map` meets its contract.
 -- Assumes nothing.
 use mathlib.Core.Path.{sym, _∙_}
 use Rattle.run.proofs.Chain.{leaves-done, leaves-refused}
 use Rattle.pich.proofs.Laws.{taken}
 use borrow.Author.Needs.{needs}
-use Rattle.pich.proofs.map.Statement.{statement}
-use Rattle.pich.proofs.map.Tie as tie
+use Rattle.pich_map.proofs.map.Statement.{statement}
+use Rattle.pich_map.proofs.map.Tie as tie
 
 map-verdict-requires : tie.Need-map-verdict-requires
 map-verdict-requires c κs = search needs

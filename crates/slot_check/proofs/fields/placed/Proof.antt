@@ -1,10 +1,10 @@
--- `slot_read::fields::placed` meets its contract.
+-- `slot_check::fields::placed` meets its contract.
 -- Assumes nothing.
 use borrow.Author.Tests.{le-leb, lt-leb}
 use Rattle.run.specs.Verdicts.{unless}
 use borrow.Author.Needs.{needs}
-use Rattle.slot_read.proofs.fields.placed.Statement.{statement}
-use Rattle.slot_read.proofs.fields.placed.Tie as tie
+use Rattle.slot_check.proofs.fields.placed.Statement.{statement}
+use Rattle.slot_check.proofs.fields.placed.Tie as tie
 
 returns : tie.Need-returns
 unfolding unless

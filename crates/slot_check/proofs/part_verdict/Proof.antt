@@ -1,4 +1,4 @@
--- `slot_read::part_verdict` meets its contract.
+-- `slot_check::part_verdict` meets its contract.
 -- Assumes nothing.
 use mathlib.Core.Path.{sym, _∙_}
 use borrow.Author.Tests.{ne-eqb}
@@ -6,8 +6,8 @@ use Rattle.run.specs.Verdicts.{orElse, unless}
 use Rattle.slot.specs.Outcome.{partVerdict}
 use Rattle.slot.proofs.Laws.{sound-format, part-whole}
 use borrow.Author.Needs.{needs}
-use Rattle.slot_read.proofs.part_verdict.Statement.{statement}
-use Rattle.slot_read.proofs.part_verdict.Tie as tie
+use Rattle.slot_check.proofs.part_verdict.Statement.{statement}
+use Rattle.slot_check.proofs.part_verdict.Tie as tie
 
 format-of-requires : tie.Need-format-of-requires
 format-of-requires c κs = search needs

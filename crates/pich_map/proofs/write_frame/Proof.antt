@@ -1,4 +1,4 @@
--- `pich::write_frame` meets its contract: each turn writes one indicator's stretch from the front on, and the tail is the last part.
+-- `pich_map::write_frame` meets its contract: each turn writes one indicator's stretch from the front on, and the tail is the last part.
 -- Assumes nothing.
 use mathlib.Core.Path.{_≡_, sym, _∙_}
 use Prim.Native.Nat.{_+_, _*_, _-_, _≤_}
@@ -6,10 +6,11 @@ use native.Mathlib.Nat.{mul-zero}
 use native.Mathlib.Omega.{arith}
 use borrow.Author.Needs.{needs}
 use Rattle.run.proofs.Front.{Front, front-none, front-length}
 use Rattle.pich.specs.Rule.{frameOf, width}
-use Rattle.pich.proofs.Laws.{groups, frame-length, one-more, tail-last}
-use Rattle.pich.proofs.write_frame.Statement.{statement}
-use Rattle.pich.proofs.write_frame.Tie as tie
+use Rattle.pich.proofs.Laws.{groups, frame-length}
+use Rattle.pich_map.proofs.Laws.{one-more, tail-last}
+use Rattle.pich_map.proofs.write_frame.Statement.{statement}
+use Rattle.pich_map.proofs.write_frame.Tie as tie
 
 abbrev Inv-loop : tie.InvT-loop
 Inv-loop np indicators frame₀ width q₀ frame q = (q ≤ np) × Front (frameOf np indicators) frame₀ frame (width * q)

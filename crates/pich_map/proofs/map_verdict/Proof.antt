@@ -1,11 +1,11 @@
--- `pich::map_verdict` meets its contract: the chain of checks is the definition's.
+-- `pich_map::map_verdict` meets its contract: the chain of checks is the definition's.
 -- Assumes nothing.
 use mathlib.Core.Path.{_∙_}
 use Rattle.run.proofs.Chain.{or-else-is, each-is}
 use Rattle.pich.specs.Outcome.{mapVerdict}
 use borrow.Author.Needs.{needs}
-use Rattle.pich.proofs.map_verdict.Statement.{statement}
-use Rattle.pich.proofs.map_verdict.Tie as tie
+use Rattle.pich_map.proofs.map_verdict.Statement.{statement}
+use Rattle.pich_map.proofs.map_verdict.Tie as tie
 
 first-above-requires : tie.Need-first-above-requires
 first-above-requires c κs = search needs

@@ -1,11 +1,11 @@
--- `slot_read::fields::pilot_differs` meets its contract.
+-- `slot_check::fields::pilot_differs` meets its contract.
 -- Assumes nothing.
 use mathlib.Core.Path.{_∙_}
 use borrow.Author.Tests.{eq-eqb, ne-eqb}
 use Rattle.dpch.specs.Pilots.{pilotSource}
 use borrow.Author.Needs.{needs}
-use Rattle.slot_read.proofs.fields.pilot_differs.Statement.{statement}
-use Rattle.slot_read.proofs.fields.pilot_differs.Tie as tie
+use Rattle.slot_check.proofs.fields.pilot_differs.Statement.{statement}
+use Rattle.slot_check.proofs.fields.pilot_differs.Tie as tie
 
 pilot-row-requires : tie.Need-pilot-row-requires
 pilot-row-requires c κs = search needs

@@ -1,4 +1,4 @@
--- `slot_read::fields::check` meets its contract: the chain of checks is the definition's, field by field.
+-- `slot_check::fields::check` meets its contract: the chain of checks is the definition's, field by field.
 -- Assumes nothing.
 use mathlib.Core.Path.{_≡_, refl, sym}
 use Prim.Native.Nat.{_+_, _≤_}
@@ -10,10 +10,11 @@ use Rattle.run.proofs.Chain.{or-else-is, each-is}
 use Rattle.dpch.specs.Formats.{silenceAllowed}
 use Rattle.slot.specs.Rule.{tfciStands}
 use Rattle.slot.specs.Outcome.{digitsVerdict}
-use Rattle.slot.proofs.Laws.{sum, start-tpc, start-tfci, start-pilot, check-field, check-pilot}
+use Rattle.slot.proofs.Laws.{sum, start-tpc, start-tfci, start-pilot}
+use Rattle.slot_check.proofs.Laws.{check-field, check-pilot}
 use borrow.Author.Needs.{needs}
-use Rattle.slot_read.proofs.fields.check.Statement.{statement}
-use Rattle.slot_read.proofs.fields.check.Tie as tie
+use Rattle.slot_check.proofs.fields.check.Statement.{statement}
+use Rattle.slot_check.proofs.fields.check.Tie as tie
 
 sums : (c : tie.Start) → (c .args .f .data1 + c .args .f .tpc + c .args .f .tfci + c .args .f .data2 + c .args .f .pilot ≡ c .args .f .slot) × (c .args .f .slot ≤ 1280)
 sums c = (sum _ (c .pre .sound), c .pre .sound .short)

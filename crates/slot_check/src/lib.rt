@@ -1,0 +1,21 @@
+// The digits of one slot of the downlink DPCH, checked (rule, promises and theorems are those of the crate `slot`): document 01, 'DPCH slot'; TS 25.211, 5.3.2.
+use run::Verdict;
+use run::refusal;
+ghost use mathlib.Core.Path.{_≡_};
+ghost use Rattle.slot.specs.Outcome.{partVerdict};
+
+mod fields;
+
+// The checks of a slot's digits, which count their places from `base`.
+pub fn part_verdict(format: usize, slot: usize, xs: &[u8], base: u32) -> Verdict
+    ensures { λ r. ⌜ r ≡ partVerdict format slot (now (xs .entry)) base ⌝ }
+{
+    let f = dpch::format_of(format);
+    if xs.len() != f.slot {
+        return Verdict {
+            number: refusal::LENGTH,
+            place: 0,
+        };
+    }
+    fields::check(format, f, slot, xs, base)
+}
