@@ -9,8 +9,8 @@ SECOND = target/second/release
 .PHONY: test steps lib slotline run fmt audit judges second jobs cases host fuzz install package bench clean
 
 # What the steps stand on is proved first, then the steps go two at a time, the output of each in one piece. rt ci comes last: it proves every crate from
-# nothing, tries every must-fail edit, and prints the verdict. It starts three checks at a time, so that two cores stay busy while one waits for its fellows.
-export RT_JOBS = 3
+# nothing, tries every must-fail edit, and prints the verdict. It starts four checks at a time, so that two cores stay busy while one waits for its fellows.
+export RT_JOBS = 4
 test:
 	rt check $(BELOW_C) slotline
 	$(MAKE) --no-print-directory -j2 --output-sync=target steps
