@@ -1,4 +1,4 @@
-// DPCH frames for a C host: each call is that of the crate `frame`, with the answer packed in one number (docs/INTERFACE.md).
+// DPCH frames for a C host: each call is that of the crates `frame_map` and `frame_read`, with the answer packed in one number (docs/INTERFACE.md).
 use packed::pack;
 ghost use Rattle.slt_frame.specs.Outcome.{FrameMap, FrameRead};
 

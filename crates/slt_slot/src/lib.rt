@@ -1,4 +1,4 @@
-// DPCH slots for a C host: each call is that of the crate `slot`, with the answer packed in one number (docs/INTERFACE.md).
+// DPCH slots for a C host: each call is that of the crates `slot_map` and `slot_read`, with the answer packed in one number (docs/INTERFACE.md).
 use packed::pack;
 ghost use Rattle.slt_slot.specs.Outcome.{SlotMap, SlotRead};
 

@@ -1,4 +1,4 @@
-// STTD for a C host: each call is that of the crate `sttd`, with the answer packed in one number (docs/INTERFACE.md).
+// STTD for a C host: each call is that of the crates `sttd` and `sttd_values`, with the answer packed in one number (docs/INTERFACE.md).
 use packed::pack;
 use run::Verdict;
 use run::refusal;
