@@ -43,11 +43,11 @@ fn pich_read(line: &[u8], indicators: &mut [u8]) -> Verdict {
 // A call that is lent one run.
 fn write_one(call: usize, line: &[u8], out: &mut [u8]) -> Verdict {
     match call {
-        0 => slot_map(line, out),
-        1 => frame_map(line, out),
-        2 => pccpch_read(line, out),
-        3 => pich_map(line, out),
-        4 => pich_read(line, out),
+        question::SLOT_MAP => slot_map(line, out),
+        question::FRAME_MAP => frame_map(line, out),
+        question::PCCPCH_READ => pccpch_read(line, out),
+        question::PICH_MAP => pich_map(line, out),
+        question::PICH_READ => pich_read(line, out),
         _ => sttd::digits(run(line, 1), out),
     }
 }
@@ -70,20 +70,22 @@ fn frame_read(line: &[u8], commands: &mut [u8], tfci: &mut [u8], data: &mut [u8]
 // The call with the runs that it is lent, which are the question's last ones.
 fn write(call: usize, line: &[u8], first: &mut [u8], second: &mut [u8], third: &mut [u8]) {
     match call {
-        6 => slot_read(line, second, third),
-        7 => pccpch_map(line, second, third),
-        8 => frame_read(line, first, second, third),
+        question::SLOT_READ => slot_read(line, second, third),
+        question::PCCPCH_MAP => pccpch_map(line, second, third),
+        question::FRAME_READ => frame_read(line, first, second, third),
         _ => answer::verdict(write_one(call, line, third)),
     }
 }
 
+// The answer: a call that is lent fewer than three runs leaves the others alone, and they are not its.
 fn tell(call: usize, line: &[u8], first: &mut [u8], second: &mut [u8], third: &mut [u8]) {
     write(call, line, first, second, third);
-    answer::run(8 <= call, line, 2, first);
-    answer::run(6 <= call, line, 1, second);
+    answer::run(question::FRAME_READ <= call, line, 2, first);
+    answer::run(question::SLOT_READ <= call, line, 1, second);
     answer::run(true, line, 0, third);
 }
 
+// Lends copies of the question's last three runs.
 pub(crate) fn lend(call: usize, line: &[u8]) {
     let mut first = [0; DIGITS];
     let n = question::lend(line, 2, &mut first);

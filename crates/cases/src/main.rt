@@ -15,19 +15,20 @@ use libc::STDIN_FILENO;
 
 fn ask(call: usize, line: &[u8]) {
     match call {
-        0..=8 => digits::lend(call, line),
-        9 => digits::q(line),
-        10..=12 => values::one(call, line),
-        13 => values::lend_results(line),
-        14 => samples::take(line),
+        question::SLOT_MAP..=question::FRAME_READ => digits::lend(call, line),
+        question::PICH_Q => digits::q(line),
+        question::AICH_MAP..=question::STTD_VALUES => values::lend(call, line),
+        question::AICH_COMBINE => values::lend_results(line),
+        question::SAMPLE => samples::take(line),
         _ => answer::text(b" -> no such call"),
     }
 }
 
+// The line of a question is ended by its answer, but what a job prints comes on lines of its own.
 fn answered(line: &[u8]) {
     let call = question::call(line);
     answer::text(line);
-    if call == 15 {
+    if call == question::JOB {
         answer::put(b'\n');
         jobs::print(question::run(line, 1));
     } else {
@@ -45,7 +46,7 @@ fn questions(text: &[u8]) {
     }
 }
 
-// Digits from here on are what they are and not letters: a run of them is what a call takes.
+// Answers each line of a text, once the letters of its digits are the digits themselves.
 fn decode(text: &mut [u8]) {
     let mut i = 0;
     while i < text.len() {

@@ -1,10 +1,51 @@
-// A question: `NAME: CALL key=value key=value`. A value is a digit run, or whole numbers with commas between them.
+// A question: `NAME: CALL key=value key=value`. The value of a key is a run of digits with nothing between them, or whole numbers with commas
+// between them. A run that the call is lent stands there as it is before the call, and the question ends with these runs.
+//
+// A digit in the text is the byte 0 to 9 and not its letter, so that a run of digits is what a call takes, and a job file whose other bytes are letters
+// is its own text.
 //
 // Nothing is refused here: what is missing is empty, what is no digit counts as 0, a number too long stops growing, a run too long is cut.
+use run::shorter;
 ghost use Prim.Native.Nat.{_≤_, _<_};
 ghost use mathlib.Core.Path.{_≡_};
 ghost use lib.ListN.{length, take};
 ghost use Rattle.io.specs.Counts.{Counts};
+
+// The calls, in the order in which `call` lists their words: those that are lent one run of digits, those that are lent two, the one that is lent
+// three; then the calls of other kinds.
+pub(crate) const SLOT_MAP: usize = 0;
+
+pub(crate) const FRAME_MAP: usize = 1;
+
+pub(crate) const PCCPCH_READ: usize = 2;
+
+pub(crate) const PICH_MAP: usize = 3;
+
+pub(crate) const PICH_READ: usize = 4;
+
+pub(crate) const STTD_DIGITS: usize = 5;
+
+pub(crate) const SLOT_READ: usize = 6;
+
+pub(crate) const PCCPCH_MAP: usize = 7;
+
+pub(crate) const FRAME_READ: usize = 8;
+
+pub(crate) const PICH_Q: usize = 9;
+
+pub(crate) const AICH_MAP: usize = 10;
+
+pub(crate) const AICH_READ: usize = 11;
+
+pub(crate) const STTD_VALUES: usize = 12;
+
+pub(crate) const AICH_COMBINE: usize = 13;
+
+pub(crate) const SAMPLE: usize = 14;
+
+pub(crate) const JOB: usize = 15;
+
+pub(crate) const NONE: usize = 16;
 
 // How many digits and how many whole numbers a run has at most.
 pub(crate) const DIGITS: usize = 300;
@@ -23,6 +64,7 @@ pub(crate) fn digit(letter: u8) -> u8 {
     letter
 }
 
+// How many marks there are.
 pub(crate) fn count(text: &[u8], mark: u8) -> usize {
     let mut n = 0;
     let mut i = 0;
@@ -58,11 +100,11 @@ pub(crate) fn piece(text: &[u8], mark: u8, k: usize) -> &[u8] {
     &rest[..n]
 }
 
-// The number of the call: its place in this list, and 16 for none of them.
+// Which call the question names.
 pub(crate) fn call(line: &[u8]) -> usize {
     let words = behind(line, b':', 1);
     let mut k = 0;
-    while k < 16 {
+    while k < NONE {
         let name = piece(
             b" slot map , frame map , P-CCPCH read , PICH map , PICH read , STTD digits , slot read , P-CCPCH map , frame read , PICH q , AICH map , AICH read , STTD values , AICH combine , sample , job ",
             b',',
@@ -81,6 +123,7 @@ pub(crate) fn run(line: &[u8], k: usize) -> &[u8] {
     piece(piece(line, b'=', k), b' ', 0)
 }
 
+// The figure of a number of base 10 or 16.
 fn figure(byte: u8) -> usize
     ensures { λ r. ⌜ r < 16 ⌝ }
 {
@@ -91,7 +134,7 @@ fn figure(byte: u8) -> usize
     }
 }
 
-// A number with one more figure, unless it would come to 2 to the 31.
+// A number with one more figure. One from 2 to the 27 on stays as it is, so that none comes to 2 to the 31.
 fn grown(n: usize, byte: u8, hex: bool) -> usize
     requires { ⌜ n < 2147483648 ⌝ }
     ensures { λ r. ⌜ r < 2147483648 ⌝ }
@@ -145,19 +188,13 @@ pub(crate) fn last(line: &[u8], before: usize) -> usize {
     std::num::wrapping_sub_usize(count(line, b'='), before)
 }
 
+// Copies the run that stands so many runs before the question's last.
 pub(crate) fn lend(line: &[u8], before: usize, to: &mut [u8]) -> usize
     ensures { λ r. ⌜ Counts r (now (to .exit)) ⌝ }
 {
     let run = run(line, last(line, before));
-    let mut i = 0;
-    while i < run.len() {
-        if i == to.len() {
-            return i;
-        }
-        to[i] = run[i];
-        i += 1;
-    }
-    i
+    write::copy(to, run);
+    shorter(to.len(), run.len())
 }
 
 pub(crate) fn values(run: &[u8], to: &mut [i32]) -> usize

@@ -37,6 +37,6 @@ pub(crate) fn take(line: &[u8]) {
     answer::verdict(sampled.verdict);
     answer::text(b" sample=");
     answer::float(sample.inphase);
-    answer::text(b",");
+    answer::put(b',');
     answer::float(sample.quadrature);
 }

@@ -1,4 +1,4 @@
-// The calls on runs of whole numbers.
+// The calls on runs of whole numbers: what is given stands first in the question, and what is lent stands last.
 use crate::answer;
 use crate::question;
 use crate::question::RESULTS;
@@ -9,8 +9,8 @@ use run::Verdict;
 
 fn write(call: usize, given: &[i32], out: &mut [i32]) -> Verdict {
     match call {
-        10 => aich::map(given, out),
-        11 => aich::read(given, out),
+        question::AICH_MAP => aich::map(given, out),
+        question::AICH_READ => aich::read(given, out),
         _ => sttd_values::values(given, out),
     }
 }
@@ -21,7 +21,7 @@ fn tell(call: usize, line: &[u8], given: &[i32], out: &mut [i32]) {
     answer::values(out);
 }
 
-pub(crate) fn one(call: usize, line: &[u8]) {
+pub(crate) fn lend(call: usize, line: &[u8]) {
     let mut given = [0; VALUES];
     let n = question::values(run(line, 1), &mut given);
     let mut out = [0; VALUES];
