@@ -59,8 +59,10 @@ jobs: judges slotline
 	sh examples/try_generator.sh $(abspath $(SLOTLINE)) target/generator
 	$(SECOND)/jobs --print < target/generator/job.slt | cmp - target/generator/expected
 
-# What the program cases must print, printed anew by the second program; rt ci runs cases itself and compares it with the same text.
+# The questions that the program cases is given and the text that it must print, printed anew by the second program; rt ci runs cases itself on these
+# questions and compares what it prints with the same text.
 cases: judges
+	$(SECOND)/cases --questions | cmp - crates/cases/stdin
 	$(SECOND)/cases | cmp - crates/cases/stdout
 
 # A C host under the sanitizers; what it prints is compared with what it should.

@@ -1,68 +1,35 @@
-// Job files of one record: the example of document 01, and refusal 13. What a job prints comes on lines of its own.
-use crate::line;
+// Job files of one record. What a job prints comes on lines of its own.
+use crate::answer;
 use run::Verdict;
+use run::or_else;
 
-fn tell(refused: Verdict) {
-    let mut text = [0u8; lines::LINE];
-    let told = lines::tell(refused, &mut text);
-    let n = told.length;
-    line::word(&text[..n]);
-}
-
-fn end(file: &[u8], at: usize) {
-    let verdict = job::end(file, at);
+fn tell(verdict: Verdict) {
     if verdict.number != 0 {
-        tell(verdict);
+        let mut line = [0u8; lines::LINE];
+        let told = lines::tell(verdict, &mut line);
+        let n = told.length;
+        answer::text(&line[..n]);
     }
 }
 
+// The record at an offset, and what follows it.
 fn record(file: &[u8], at: usize) {
-    let mut text = [0u8; lines::LINE];
-    let ran = job::run(file, at, &mut text);
-    let verdict = ran.verdict;
-    if verdict.number != 0 {
-        tell(verdict);
-        return;
-    }
+    let mut line = [0u8; lines::LINE];
+    let ran = job::run(file, at, &mut line);
     let n = ran.length;
-    line::word(&text[..n]);
-    end(file, ran.next);
+    answer::text(&line[..n]);
+    tell(or_else(ran.verdict, job::end(file, ran.next)));
 }
 
-fn printed(name: usize, file: &[u8]) {
-    line::begin(name, b"job");
-    line::numbers(file);
-    line::end();
-    let mut text = [0u8; lines::LINE];
-    let opened = job::open(file, &mut text);
+pub(crate) fn print(file: &[u8]) {
+    let mut line = [0u8; lines::LINE];
+    let opened = job::open(file, &mut line);
+    let n = opened.length;
+    answer::text(&line[..n]);
     let verdict = opened.verdict;
     if verdict.number != 0 {
         tell(verdict);
-        return;
+    } else {
+        record(file, opened.next);
     }
-    let n = opened.length;
-    line::word(&text[..n]);
-    record(file, opened.next);
-}
-
-pub(crate) fn all() {
-    printed(
-        line::OTHER,
-        b"SLT\x00\x01\x01\x03\x01\x01\x01\x00\x01\x01\x00",
-    );
-    // the low byte of the version first
-    printed(
-        line::REFUSAL_13,
-        b"SLT\x01\x00\x01\x03\x01\x01\x01\x00\x01\x01\x00",
-    );
-    // a byte is missing, and so is TFCI's rule broken
-    printed(
-        line::REFUSAL_13,
-        b"SLT\x00\x01\x01\x03\x01\x01\x01\x00\x02\x01",
-    );
-    // a byte stands behind the record
-    printed(
-        line::REFUSAL_13,
-        b"SLT\x00\x01\x01\x03\x01\x01\x01\x00\x01\x01\x00\x00",
-    );
 }

@@ -1,24 +1,63 @@
-// Runs the proved calls on the cases of document 01, one line for each: its name, the call with its inputs, and what was answered and
-// left in each lent run. The file stdout beside src/ was printed by the independent second program from its own rules.
+// Answers questions on the proved calls, one line for each: the question as it stands, and what the call answers and leaves in each lent run.
+// The questions are the cases of document 01. The independent second program wrote them to the file stdin beside src/, and the same questions
+// with the answers of its own rules to the file stdout.
 //
 // The names say where a case is from: P1 to P12 are the marked examples, `other` the other examples, `refusal N` a row of the table of
 // numbers, `slip` a slip that has been seen, `done` any other call that is done.
-mod access;
-mod antennas;
-mod frames;
+mod answer;
+mod digits;
 mod jobs;
-mod line;
-mod paging;
-mod runs;
+mod question;
 mod samples;
-mod slots;
+mod values;
+
+use libc::STDIN_FILENO;
+
+fn ask(call: usize, line: &[u8]) {
+    match call {
+        question::SLOT_MAP..=question::FRAME_READ => digits::lend(call, line),
+        question::PICH_Q => digits::q(line),
+        question::AICH_MAP..=question::STTD_VALUES => values::lend(call, line),
+        question::AICH_COMBINE => values::lend_results(line),
+        question::SAMPLE => samples::take(line),
+        _ => answer::text(b" -> no such call"),
+    }
+}
+
+// The line of a question is ended by its answer, but what a job prints comes on lines of its own.
+fn answered(line: &[u8]) {
+    let call = question::call(line);
+    answer::text(line);
+    if call == question::JOB {
+        answer::put(b'\n');
+        jobs::print(question::run(line, 1));
+    } else {
+        ask(call, line);
+        answer::put(b'\n');
+    }
+}
+
+fn questions(text: &[u8]) {
+    let lines = question::count(text, b'\n');
+    let mut k = 0;
+    while k < lines {
+        answered(question::piece(text, b'\n', k));
+        k += 1;
+    }
+}
+
+// Answers each line of a text, once the letters of its digits are the digits themselves.
+fn decode(text: &mut [u8]) {
+    let mut i = 0;
+    while i < text.len() {
+        text[i] = question::digit(text[i]);
+        i += 1;
+    }
+    questions(text);
+}
 
 fn main() {
-    slots::all();
-    frames::all();
-    antennas::all();
-    paging::all();
-    access::all();
-    samples::all();
-    jobs::all();
+    let mut buffer = io::large_buffer();
+    let n = io::read_full(STDIN_FILENO, &mut buffer);
+    decode(&mut buffer[..n]);
 }

@@ -1,54 +1,59 @@
 //! AICH: P9 to P12, indicators, values and the combiner.
 
-use crate::line::Line;
-use crate::runs::{FAR, left};
+use crate::case::{Case, Line};
+use crate::runs::{FAR, far, left, numbers};
 use second::rules::combiner::{Complex, combine, gain_pair, symbols};
 use second::rules::{aich, sttd};
 
-fn map(name: &str, indicators: &[i32], n_values: usize) {
+fn map(name: &str, indicators: &[i32], n_values: usize) -> Case {
     let outcome = aich::map(indicators, n_values);
-    let line = Line::new(name, "AICH map").numbers(indicators);
-    line.answer(&outcome).numbers(&left(&outcome, n_values, FAR)).print();
+    let line = Line::new(name, "AICH map").key("indicators", numbers(indicators));
+    line.lent("values", far(n_values), numbers(&left(&outcome, n_values, FAR))).answered(&outcome)
 }
 
-fn read(name: &str, values: &[i32]) {
+fn read(name: &str, values: &[i32]) -> Case {
     let outcome = aich::read(values, 16);
-    let line = Line::new(name, "AICH read").numbers(values);
-    line.answer(&outcome).numbers(&left(&outcome, 16, FAR)).print();
+    let line = Line::new(name, "AICH read").key("values", numbers(values));
+    line.lent("indicators", far(16), numbers(&left(&outcome, 16, FAR))).answered(&outcome)
 }
 
-fn mapping() {
-    map("P9", &[1; 16], 32);
-    map("P10", &[1, -1, 0, 0, 0, 0, 0, 0, 0, 0, 0, 0, 0, 0, 0, 0], 32);
-    map("done", &[1, 0, -1, 0, 0, 1, 1, 0, 0, 0, -1, 0, 0, 0, 0, -1], 32);
-    map("refusal 11", &[1, 0, -1, 0, 0, 1, 1, 2, 0, 0, -1, 0, 0, -2, 0, -1], 32);
-    map("refusal 3", &[2, 2], 32);
-    map("refusal 3", &[2; 16], 31);
+fn mapping() -> Vec<Case> {
+    vec![
+        map("P9", &[1; 16], 32),
+        map("P10", &[1, -1, 0, 0, 0, 0, 0, 0, 0, 0, 0, 0, 0, 0, 0, 0], 32),
+        map("done", &[1, 0, -1, 0, 0, 1, 1, 0, 0, 0, -1, 0, 0, 0, 0, -1], 32),
+        map("refusal 11", &[1, 0, -1, 0, 0, 1, 1, 2, 0, 0, -1, 0, 0, -2, 0, -1], 32),
+        map("refusal 3", &[2, 2], 32),
+        map("refusal 3", &[2; 16], 31),
+    ]
 }
 
-fn reading() {
-    read("P11", &[2; 32]);
+fn reading() -> Vec<Case> {
     let mut ones = [1; 32];
     ones[31] = -1;
-    read("other", &ones);
-    let mut values = [0, 0, 2, 2].repeat(8);
-    read("done", &values);
+    let values = [0, 0, 2, 2].repeat(8);
     // unlike neighbours with the same sum: every correlation is that of the values before
-    values[6] = 1;
-    values[7] = 3;
-    read("slip", &values);
+    let mut unlike = values.clone();
+    unlike[6] = 1;
+    unlike[7] = 3;
     let mut pair = [0; 32];
     pair[0] = 1;
     pair[1] = 1;
-    read("refusal 10", &pair);
-    read("refusal 3", &[2]);
+    vec![
+        read("P11", &[2; 32]),
+        read("other", &ones),
+        read("done", &values),
+        read("slip", &unlike),
+        read("refusal 10", &pair),
+        read("refusal 3", &[2]),
+    ]
 }
 
 /// The gains are the parts of h1 and h2.
-fn combined(name: &str, gains: [i64; 4], received: &[i32]) {
+fn combined(name: &str, gains: [i64; 4], received: &[i32]) -> Case {
     let outcome = combine(gains, received, 16);
-    let line = Line::new(name, "AICH combine").add("gains").numbers(&gains).add("received").numbers(received);
-    line.answer(&outcome).numbers(&left(&outcome, 16, i64::from(FAR))).print();
+    let line = Line::new(name, "AICH combine").key("gains", numbers(&gains)).key("received", numbers(received));
+    line.lent("results", far(16), numbers(&left(&outcome, 16, i64::from(FAR)))).answered(&outcome)
 }
 
 /// What arrives with no noise when one indicator is sent from both antennas: the values of antenna 1 times h1, and
@@ -65,25 +70,26 @@ fn clean(gains: [i64; 4], signature: usize, indicator: i32) -> Vec<i32> {
     heard.flat_map(|symbol| [symbol.re as i32, symbol.im as i32]).collect()
 }
 
-fn combining() {
-    combined("P12", [3, 4, 0, 0], &clean([3, 4, 0, 0], 5, -1));
-    let mut parts = [0; 32];
-    combined("other", [4097, 0, 0, 0], &parts);
-    combined("other", [4096, 0, 0, 0], &parts);
-    combined("other", [1, 1, 2, -1], &clean([1, 1, 2, -1], 0, 1));
-    parts[30] = 1_048_577;
-    combined("refusal 11", [0, 0, 0, 0], &parts);
-    combined("refusal 11", [0, -4097, 4097, -4097], &parts);
-    combined("refusal 11", [0, 0, 4097, -4097], &parts);
-    combined("refusal 11", [0, 0, 0, -4097], &parts);
-    parts[30] = -1_048_576;
-    combined("refusal 12", [0, 0, 0, 0], &parts);
-    combined("done", [-4096, 4096, -4096, -4096], &parts);
-    combined("refusal 3", [4097, 0, 0, 0], &[0]);
+fn combining() -> Vec<Case> {
+    let none = [0; 32];
+    let (mut above, mut lowest) = (none, none);
+    above[30] = 1_048_577;
+    lowest[30] = -1_048_576;
+    vec![
+        combined("P12", [3, 4, 0, 0], &clean([3, 4, 0, 0], 5, -1)),
+        combined("other", [4097, 0, 0, 0], &none),
+        combined("other", [4096, 0, 0, 0], &none),
+        combined("other", [1, 1, 2, -1], &clean([1, 1, 2, -1], 0, 1)),
+        combined("refusal 11", [0, 0, 0, 0], &above),
+        combined("refusal 11", [0, -4097, 4097, -4097], &above),
+        combined("refusal 11", [0, 0, 4097, -4097], &above),
+        combined("refusal 11", [0, 0, 0, -4097], &above),
+        combined("refusal 12", [0, 0, 0, 0], &lowest),
+        combined("done", [-4096, 4096, -4096, -4096], &lowest),
+        combined("refusal 3", [4097, 0, 0, 0], &[0]),
+    ]
 }
 
-pub fn all() {
-    mapping();
-    reading();
-    combining();
+pub fn all() -> Vec<Case> {
+    [mapping(), reading(), combining()].concat()
 }

@@ -1,16 +1,18 @@
 //! Job files of one record: the example of the rules document, and refusal 13. What a job prints comes on lines of its
 //! own.
 
-use crate::line::Line;
+use crate::case::{Case, Line};
 use second::rules::job;
 
 const EXAMPLE: [u8; 14] = *b"SLT\x00\x01\x01\x03\x01\x01\x01\x00\x01\x01\x00";
 
-fn printed(name: &str, file: &[u8]) {
-    Line::new(name, "job").numbers(file).print();
-    let text = job::printed(file);
-    assert!(name != "refusal 13" || text.contains("refused 13 "), "the job {file:?} prints {text}");
-    print!("{text}");
+/// A byte from 0 to 9 as that digit, any other as its letter.
+fn letters(file: &[u8]) -> String {
+    file.iter().map(|byte| if *byte < 10 { char::from(b'0' + byte) } else { char::from(*byte) }).collect()
+}
+
+fn printed(name: &str, file: &[u8]) -> Case {
+    Line::new(name, "job").key("file", letters(file)).printed(&job::printed(file))
 }
 
 fn changed(places: &[(usize, u8)]) -> Vec<u8> {
@@ -21,12 +23,14 @@ fn changed(places: &[(usize, u8)]) -> Vec<u8> {
     file
 }
 
-pub fn all() {
-    printed("other", &EXAMPLE);
-    // the low byte of the version first
-    printed("refusal 13", &changed(&[(3, 1), (4, 0)]));
-    // a byte is missing, and so is TFCI's rule broken
-    printed("refusal 13", &changed(&[(11, 2)])[..13]);
-    // a byte stands behind the record
-    printed("refusal 13", &[EXAMPLE.as_slice(), &[0]].concat());
+pub fn all() -> Vec<Case> {
+    vec![
+        printed("other", &EXAMPLE),
+        // the low byte of the version first
+        printed("refusal 13", &changed(&[(3, 1), (4, 0)])),
+        // a byte is missing, and so is TFCI's rule broken
+        printed("refusal 13", &changed(&[(11, 2)])[..13]),
+        // a byte stands behind the record
+        printed("refusal 13", &[EXAMPLE.as_slice(), &[0]].concat()),
+    ]
 }

@@ -1,6 +1,7 @@
-//! The runs that cases are made of.
+//! The runs that cases are made of, and how they are written.
 
 use second::answer::Refusal;
+use std::fmt::Display;
 
 /// What a lent run of digits holds before the call: no digit that a call could write.
 pub const MARK: u8 = 9;
@@ -28,4 +29,24 @@ pub fn left<T: Copy>(outcome: &Result<Vec<T>, Refusal>, length: usize, mark: T) 
         Ok(run) => run.clone(),
         Err(_) => vec![mark; length],
     }
+}
+
+/// The digits of a run with nothing between them.
+pub fn digits(run: &[u8]) -> String {
+    run.iter().map(u8::to_string).collect()
+}
+
+/// The digits of a lent run before the call.
+pub fn marks(length: usize) -> String {
+    digits(&vec![MARK; length])
+}
+
+/// The numbers of a run with commas between them.
+pub fn numbers<T: Display>(run: &[T]) -> String {
+    run.iter().map(T::to_string).collect::<Vec<_>>().join(",")
+}
+
+/// The numbers of a lent run before the call.
+pub fn far(length: usize) -> String {
+    numbers(&vec![FAR; length])
 }

@@ -1,0 +1,52 @@
+-- `cases::answer::results` is safe and ends: each turn leaves one number fewer.
+-- Assumes nothing.
+use Prim.Native.Nat.{_-_, _≤_}
+use native.Mathlib.Omega.{arith}
+use lib.ListN.{length}
+use Rattle.cases.proofs.answer.results.Statement.{statement}
+use Rattle.cases.proofs.answer.results.Tie as tie
+
+abbrev Inv-loop : tie.InvT-loop
+Inv-loop run i₀ i = i ≤ length run
+
+abbrev μ-loop : tie.MeasureT-loop
+μ-loop run i₀ i = length run - i
+
+loop-holds : tie.Need-loop-holds Inv-loop μ-loop
+loop-holds c = omega arith
+
+mul-signed : tie.Need-mul-signed Inv-loop μ-loop
+mul-signed c = omega arith
+
+shared-slice-copy-out-signed : tie.Need-shared-slice-copy-out-signed Inv-loop μ-loop
+shared-slice-copy-out-signed c = omega arith
+
+signed-requires : tie.Need-signed-requires Inv-loop μ-loop
+signed-requires c κs = tt
+
+add-i : tie.Need-add-i Inv-loop μ-loop
+add-i c = omega arith
+
+loop-less : tie.Need-loop-less Inv-loop μ-loop
+loop-less c = omega arith
+
+loop-again : tie.Need-loop-again Inv-loop μ-loop
+loop-again c = omega arith
+
+returns : tie.Need-returns Inv-loop μ-loop
+returns c = tt
+
+pub results-spec : {M : Type 1} → statement M
+results-spec =
+    tie.close
+    (tie.spec
+    Inv-loop
+    μ-loop
+    loop-holds
+    mul-signed
+    shared-slice-copy-out-signed
+    signed-requires
+    add-i
+    loop-less
+    loop-again
+    returns)

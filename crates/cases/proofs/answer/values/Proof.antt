@@ -1,0 +1,56 @@
+-- `cases::answer::values` is safe and ends: each turn leaves one number fewer.
+-- Assumes nothing.
+use Prim.Native.Nat.{_-_, _≤_}
+use native.Mathlib.Omega.{arith}
+use lib.ListN.{length}
+use Rattle.cases.proofs.answer.values.Statement.{statement}
+use Rattle.cases.proofs.answer.values.Tie as tie
+
+abbrev Inv-loop : tie.InvT-loop
+Inv-loop run i₀ i = i ≤ length run
+
+abbrev μ-loop : tie.MeasureT-loop
+μ-loop run i₀ i = length run - i
+
+loop-holds : tie.Need-loop-holds Inv-loop μ-loop
+loop-holds c = omega arith
+
+mul-wide : tie.Need-mul-wide Inv-loop μ-loop
+mul-wide c = omega arith
+
+shared-slice-copy-out-wide : tie.Need-shared-slice-copy-out-wide Inv-loop μ-loop
+shared-slice-copy-out-wide c = omega arith
+
+wide-requires : tie.Need-wide-requires Inv-loop μ-loop
+wide-requires c κs = tt
+
+signed-requires : tie.Need-signed-requires Inv-loop μ-loop
+signed-requires c κs = tt
+
+add-i : tie.Need-add-i Inv-loop μ-loop
+add-i c = omega arith
+
+loop-less : tie.Need-loop-less Inv-loop μ-loop
+loop-less c = omega arith
+
+loop-again : tie.Need-loop-again Inv-loop μ-loop
+loop-again c = omega arith
+
+returns : tie.Need-returns Inv-loop μ-loop
+returns c = tt
+
+pub values-spec : {M : Type 1} → statement M
+values-spec =
+    tie.close
+    (tie.spec
+    Inv-loop
+    μ-loop
+    loop-holds
+    mul-wide
+    shared-slice-copy-out-wide
+    wide-requires
+    signed-requires
+    add-i
+    loop-less
+    loop-again
+    returns)

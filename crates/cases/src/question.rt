@@ -1,0 +1,224 @@
+// A question: `NAME: CALL key=value key=value`. The value of a key is a run of digits with nothing between them, or whole numbers with commas
+// between them. A run that the call is lent stands there as it is before the call, and the question ends with these runs.
+//
+// A digit in the text is the byte 0 to 9 and not its letter, so that a run of digits is what a call takes, and a job file whose other bytes are letters
+// is its own text.
+//
+// Nothing is refused here: what is missing is empty, what is no digit counts as 0, a number too long stops growing, a run too long is cut.
+use run::shorter;
+ghost use Prim.Native.Nat.{_≤_, _<_};
+ghost use mathlib.Core.Path.{_≡_};
+ghost use lib.ListN.{length, take};
+ghost use Rattle.io.specs.Counts.{Counts};
+
+// The calls, in the order in which `call` lists their words: those that are lent one run of digits, of which 5, STTD, has no name here since it is told as the
+// rest; those that are lent two, the one that is lent three; then the calls of other kinds.
+pub(crate) const SLOT_MAP: usize = 0;
+
+pub(crate) const FRAME_MAP: usize = 1;
+
+pub(crate) const PCCPCH_READ: usize = 2;
+
+pub(crate) const PICH_MAP: usize = 3;
+
+pub(crate) const PICH_READ: usize = 4;
+
+pub(crate) const SLOT_READ: usize = 6;
+
+pub(crate) const PCCPCH_MAP: usize = 7;
+
+pub(crate) const FRAME_READ: usize = 8;
+
+pub(crate) const PICH_Q: usize = 9;
+
+pub(crate) const AICH_MAP: usize = 10;
+
+pub(crate) const AICH_READ: usize = 11;
+
+pub(crate) const STTD_VALUES: usize = 12;
+
+pub(crate) const AICH_COMBINE: usize = 13;
+
+pub(crate) const SAMPLE: usize = 14;
+
+pub(crate) const JOB: usize = 15;
+
+pub(crate) const NONE: usize = 16;
+
+// How many digits and how many whole numbers a run has at most.
+pub(crate) const DIGITS: usize = 300;
+
+pub(crate) const VALUES: usize = 32;
+
+pub(crate) const RESULTS: usize = 16;
+
+// A letter that is a digit as that digit, any other as it is.
+pub(crate) fn digit(letter: u8) -> u8 {
+    if b'0' <= letter {
+        if letter <= b'9' {
+            return letter - b'0';
+        }
+    }
+    letter
+}
+
+// How many marks there are.
+pub(crate) fn count(text: &[u8], mark: u8) -> usize {
+    let mut n = 0;
+    let mut i = 0;
+    while i < text.len() {
+        if text[i] == mark {
+            n += 1;
+        }
+        i += 1;
+    }
+    n
+}
+
+// What stands behind the k-th mark.
+fn behind(text: &[u8], mark: u8, k: usize) -> &[u8] {
+    let mut left = k;
+    let mut i = 0;
+    while i < text.len() {
+        if left == 0 {
+            return &text[i..];
+        }
+        if text[i] == mark {
+            left -= 1;
+        }
+        i += 1;
+    }
+    &text[i..]
+}
+
+// What stands between the k-th mark and the next.
+pub(crate) fn piece(text: &[u8], mark: u8, k: usize) -> &[u8] {
+    let rest = behind(text, mark, k);
+    let n = scan::first_equal(rest, mark);
+    &rest[..n]
+}
+
+// Which call the question names.
+pub(crate) fn call(line: &[u8]) -> usize {
+    let words = behind(line, b':', 1);
+    let mut k = 0;
+    while k < NONE {
+        let name = piece(
+            b" slot map , frame map , P-CCPCH read , PICH map , PICH read , STTD digits , slot read , P-CCPCH map , frame read , PICH q , AICH map , AICH read , STTD values , AICH combine , sample , job ",
+            b',',
+            k,
+        );
+        if scan::first_diff(words, name) == name.len() {
+            return k;
+        }
+        k += 1;
+    }
+    k
+}
+
+// The value of the k-th key.
+pub(crate) fn run(line: &[u8], k: usize) -> &[u8] {
+    piece(piece(line, b'=', k), b' ', 0)
+}
+
+// The figure of a number of base 10 or 16.
+fn figure(byte: u8) -> usize
+    ensures { λ r. ⌜ r < 16 ⌝ }
+{
+    match byte {
+        0..=9 => byte as usize,
+        b'a'..=b'f' => (byte - 87) as usize,
+        _ => 0,
+    }
+}
+
+// A number with one more figure. One from 2 to the 27 on stays as it is, so that none comes to 2 to the 31.
+fn grown(n: usize, byte: u8, hex: bool) -> usize
+    requires { ⌜ n < 2147483648 ⌝ }
+    ensures { λ r. ⌜ r < 2147483648 ⌝ }
+{
+    if 134217728 <= n {
+        return n;
+    }
+    if hex {
+        return n * 16 + figure(byte);
+    }
+    n * 10 + figure(byte)
+}
+
+pub(crate) fn read(text: &[u8], hex: bool) -> usize
+    ensures { λ r. ⌜ r < 2147483648 ⌝ }
+{
+    let mut n = 0;
+    let mut i = 0;
+    while i < text.len() {
+        n = grown(n, text[i], hex);
+        i += 1;
+    }
+    n
+}
+
+pub(crate) fn number(line: &[u8], k: usize) -> usize {
+    read(run(line, k), false)
+}
+
+// The k-th whole number of a run.
+fn value(run: &[u8], k: usize) -> i32 {
+    let text = piece(run, b',', k);
+    let size = read(text, false) as i32;
+    if scan::first_equal(text, b'-') == text.len() {
+        size
+    } else {
+        0 - size
+    }
+}
+
+pub(crate) fn wide(x: i32) -> i64 {
+    x as i64
+}
+
+pub(crate) fn signed(run: &[u8], k: usize) -> i64 {
+    wide(value(run, k))
+}
+
+// The number of the run that stands so many runs before the question's last.
+pub(crate) fn last(line: &[u8], before: usize) -> usize {
+    std::num::wrapping_sub_usize(count(line, b'='), before)
+}
+
+// Copies the run that stands so many runs before the question's last.
+pub(crate) fn lend(line: &[u8], before: usize, to: &mut [u8]) -> usize
+    ensures { λ r. ⌜ Counts r (now (to .exit)) ⌝ }
+{
+    let run = run(line, last(line, before));
+    write::copy(to, run);
+    shorter(to.len(), run.len())
+}
+
+pub(crate) fn values(run: &[u8], to: &mut [i32]) -> usize
+    ensures { λ r. ⌜ (r ≤ length (now (to .exit))) × (r ≡ length (take r (now (to .exit)))) ⌝ }
+{
+    let mut i = 0;
+    while i < to.len() {
+        if behind(run, b',', i).len() == 0 {
+            return i;
+        }
+        to[i] = value(run, i);
+        i += 1;
+    }
+    i
+}
+
+pub(crate) fn results(run: &[u8], to: &mut [i64]) -> usize
+    ensures { λ r. ⌜ (r ≤ length (now (to .exit))) × (r ≡ length (take r (now (to .exit)))) ⌝ }
+{
+    let mut i = 0;
+    while i < to.len() {
+        if behind(run, b',', i).len() == 0 {
+            return i;
+        }
+        to[i] = signed(run, i);
+        i += 1;
+    }
+    i
+}

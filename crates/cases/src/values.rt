@@ -1,0 +1,52 @@
+// The calls on runs of whole numbers: what is given stands first in the question, and what is lent stands last.
+use crate::answer;
+use crate::question;
+use crate::question::RESULTS;
+use crate::question::VALUES;
+use crate::question::run;
+use crate::question::signed;
+use run::Verdict;
+
+fn write(call: usize, given: &[i32], out: &mut [i32]) -> Verdict {
+    match call {
+        question::AICH_MAP => aich::map(given, out),
+        question::AICH_READ => aich::read(given, out),
+        _ => sttd_values::values(given, out),
+    }
+}
+
+fn tell(call: usize, line: &[u8], given: &[i32], out: &mut [i32]) {
+    answer::verdict(write(call, given, out));
+    answer::key(line, 0);
+    answer::values(out);
+}
+
+pub(crate) fn lend(call: usize, line: &[u8]) {
+    let mut given = [0; VALUES];
+    let n = question::values(run(line, 1), &mut given);
+    let mut out = [0; VALUES];
+    let m = question::values(run(line, 2), &mut out);
+    tell(call, line, &given[..n], &mut out[..m]);
+}
+
+fn combine(line: &[u8], received: &[i32], results: &mut [i64]) {
+    let gains = run(line, 1);
+    answer::verdict(combiner::combine(
+        signed(gains, 0),
+        signed(gains, 1),
+        signed(gains, 2),
+        signed(gains, 3),
+        received,
+        results,
+    ));
+    answer::key(line, 0);
+    answer::results(results);
+}
+
+pub(crate) fn lend_results(line: &[u8]) {
+    let mut received = [0; VALUES];
+    let n = question::values(run(line, 2), &mut received);
+    let mut results = [0; RESULTS];
+    let m = question::results(run(line, 3), &mut results);
+    combine(line, &received[..n], &mut results[..m]);
+}
