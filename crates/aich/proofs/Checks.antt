@@ -9,7 +9,7 @@ use borrow.Author.Tests.{eqb-true, eq-eqb}
 use lib.ListN.{length, getD}
 use lib.IntN.{ℤ, pos, negsuc}
 use Rattle.run.specs.declared.Verdict.{Verdict}
-use Rattle.run.specs.First.{Every}
+use Rattle.run.specs.First.{all, Every}
 use Rattle.run.specs.Ranges.{inRange}
 use Rattle.run.specs.Refusals.{valuesRefused}
 use Rattle.run.specs.Verdicts.{refused, done, unless}
@@ -18,8 +18,8 @@ use Rattle.run.proofs.Ranges.{range-parts}
 use Rattle.whole.proofs.Bound.{b-range}
 use Rattle.aich.specs.Rule.{indicatorsIn}
 use Rattle.aich.specs.Outcome.{mapVerdict, given, readHead, readVerdict, Read}
-use Rattle.aich.specs.Method.{Sixteen, halfOf, firsts, all, alike, fitsAt}
-use Rattle.aich.proofs.Passing.{every-all}
+use Rattle.aich.specs.Method.{Sixteen, halfOf, firsts, alike, fitsAt}
+use Rattle.run.proofs.Passing.{every-all}
 use Rattle.aich.proofs.Reading.{all-alike, all-fit}
 
 -- sixteen numbers in -1 to 1

@@ -6,15 +6,15 @@ use mathlib.Core.Bool.{Bool, true, false, cond}
 use mathlib.Core.List.{List}
 use Prim.Native.Nat.{ℕ, _+_, _*_, _/_, _%_, _≤_, _<_, _^_}
 use native.Mathlib.Omega.{arith}
-use borrow.Author.Tests.{leb-true, eq-eqb, ne-eqb}
+use borrow.Author.Tests.{eq-eqb, ne-eqb}
 use lib.Count.{ones}
-use lib.Dec.{eqb, leb}
+use lib.Dec.{eqb}
 use lib.ListN.{length, getD, set}
 use lib.IntN.{ℤ, pos, negℤ, _+ℤ_, _-ℤ_, _*ℤ_, zero-*ℤ, *ℤ-comm}
 use mir.Syntax.{Width}
 use mir.Val.{SFits, hbits, toZ, ofZ}
-use Rattle.run.specs.First.{firstBad}
-use Rattle.run.proofs.First.{none-first}
+use Rattle.run.specs.First.{firstBad, all}
+use Rattle.run.proofs.Passing.{all-every}
 use Rattle.run.proofs.Front.{Front, front-length, front-store}
 use Rattle.run.proofs.Table.{tab-length, tab-at, tab-is}
 use Rattle.whole.specs.Bound.{Bounded}
@@ -94,16 +94,16 @@ four-test : ℕ → ℕ → Bool
 four-test k s = eqZ (four k s) (sign s (2 * k))
 
 row-test : ℕ → Bool
-row-test k = leb 16 (firstBad (four-test k) 16)
+row-test k = all 16 (four-test k)
 
-all-rows : leb 16 (firstBad row-test 16) ≡ true
+all-rows : all 16 row-test ≡ true
 unfolding row-test four-test four identity foldAt firstBad sign isPlus ones
 all-rows = refl
 
 four-sign : (k s : ℕ) → k < 16 → s < 16 → four k s ≡ sign s (2 * k)
 unfolding row-test four-test
 four-sign k s h l =
-    eqZ-true _ _ (none-first (four-test k) 16 (leb-true 16 _ (none-first row-test 16 (leb-true 16 _ all-rows) k h)) s l)
+    eqZ-true _ _ (all-every 16 (four-test k) (all-every 16 row-test all-rows k h) s l)
 
 pub folded-length : (x : List ℤ) → length (folded x) ≡ 16
 unfolding folded

@@ -1,5 +1,4 @@
 pub mod Folding
-pub mod Passing
 pub mod Laws
 pub mod Reading
 pub mod Checks

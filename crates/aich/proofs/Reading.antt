@@ -19,7 +19,7 @@ use Rattle.whole.proofs.Equal.{eqZ-true, eq-eqZ}
 use Rattle.aich.specs.Rule.{valueAt, unit, indicatorsIn}
 use Rattle.aich.specs.Outcome.{agrees, given}
 use Rattle.aich.specs.Method.{Sixteen, halfOf, firsts, isPair, alike, fitsAt, unitsOf}
-use Rattle.aich.proofs.Passing.{all-every, every-all}
+use Rattle.run.proofs.Passing.{all-every, every-all}
 use Rattle.aich.proofs.Laws.{entry, indicators-length, value-half, value-times, value-small, half-at, half-twice, unit-fits, fit-is, fit-twice, indicator-at, indicator-small, firsts-length, first-at, pairs-correlate, given-alike, given-sum}
 
 and-parts : (a b : Bool) → (a && b) ≡ true → (a ≡ true) × (b ≡ true)

@@ -5,10 +5,9 @@ use Prim.Native.Nat.{ℕ, _+_, _*_, _/_, _%_, _<_}
 use mathlib.Core.Path.{_≡_}
 use mathlib.Core.Bool.{Bool, cond, _&&_, _||_}
 use mathlib.Core.List.{List}
-use lib.Dec.{eqb, leb}
+use lib.Dec.{eqb}
 use lib.ListN.{length, getD}
 use lib.IntN.{ℤ, pos, negsuc, _+ℤ_, _-ℤ_}
-use Rattle.run.specs.First.{firstBad}
 use Rattle.run.specs.Ranges.{between}
 use Rattle.run.specs.Table.{tab}
 use Rattle.whole.specs.Equal.{eqZ}
@@ -34,10 +33,6 @@ halfOf indicators = tab 16 (λ (k : ℕ). valueAt indicators (2 * k))
 -- one value of each pair
 unfoldable pub firsts : List ℤ → List ℤ
 firsts values = tab 16 (λ (k : ℕ). getD values (2 * k) (pos 0))
-
--- the test holds at all of n places
-abbrev pub all : ℕ → (ℕ → Bool) → Bool
-all n ok = leb n (firstBad ok n)
 
 -- two equal values, in -16 to 16
 unfoldable pub isPair : ℤ → ℤ → Bool

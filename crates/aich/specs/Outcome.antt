@@ -5,10 +5,10 @@ use mathlib.Core.Path.{_≡_}
 use mathlib.Core.Bool.{Bool}
 use mathlib.Core.List.{List}
 use lib.ListN.{length, getD}
-use lib.Dec.{eqb, leb}
+use lib.Dec.{eqb}
 use lib.IntN.{ℤ, pos, negsuc}
 use Rattle.run.specs.declared.Verdict.{Verdict}
-use Rattle.run.specs.First.{firstBad}
+use Rattle.run.specs.First.{all}
 use Rattle.run.specs.Ranges.{inRange}
 use Rattle.run.specs.Refusals.{lengthRefused, valuesRefused, rangeRefused}
 use Rattle.run.specs.Verdicts.{orElse, unless, each, leaves}
@@ -32,7 +32,7 @@ agrees indicators values j = eqZ (valueAt indicators j) (getD values j (pos 0))
 
 -- all 32 are
 unfoldable pub given : List ℤ → List ℤ → Bool
-given indicators values = leb 32 (firstBad (agrees indicators values) 32)
+given indicators values = all 32 (agrees indicators values)
 
 -- read: 3 (values, indicators) ..
 unfoldable pub readHead : ℕ → ℕ → Verdict

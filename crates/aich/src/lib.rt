@@ -5,9 +5,10 @@ use run::refusal;
 use run::unless;
 ghost use mathlib.Core.Path.{_≡_};
 ghost use lib.ListN.{length};
+ghost use Rattle.run.specs.First.{all};
 ghost use Rattle.aich.specs.Rule.{valuesOf, unit};
 ghost use Rattle.aich.specs.Outcome.{mapVerdict, Map, readHead, Read};
-ghost use Rattle.aich.specs.Method.{Sixteen, folded, halfOf, firsts, all, isPair, alike, fits16, fitsAt, unitsOf};
+ghost use Rattle.aich.specs.Method.{Sixteen, folded, halfOf, firsts, isPair, alike, fits16, fitsAt, unitsOf};
 
 // Entries i and i + 8 become their sum and their difference, side by side.
 fn fold(x: &[i32]) -> [i32; 16]

@@ -5,12 +5,13 @@ use mathlib.Core.Bool.{Bool, true, false, cond}
 use Prim.Native.Nat.{ℕ, zero, suc, _+_, _<_, suc-le-suc}
 use native.Mathlib.Nat.{zero-add, not-suc-le-zero, le-of-suc-le-suc}
 use native.Mathlib.Omega.{arith}
-use borrow.Author.Tests.{eqb-true, eqb-false, leb-true, le-leb, eq-eqb, ne-eqb}
+use borrow.Author.Tests.{eqb-true, eqb-false, eq-eqb, ne-eqb}
 use lib.Dec.{eqb, leb, lit<}
 use Rattle.run.specs.declared.Verdict.{Verdict}
-use Rattle.run.specs.First.{firstBad, Every}
+use Rattle.run.specs.First.{firstBad, all, Every}
 use Rattle.run.specs.Verdicts.{done, orElse, unless, each, chain, leaves, Narrow}
-use Rattle.run.proofs.First.{first-le, first-none, none-first}
+use Rattle.run.proofs.First.{first-le}
+use Rattle.run.proofs.Passing.{all-every, every-all}
 
 -- the chain is done: its first check is, and so are the others
 pub record Both (v w : Verdict) : Type 0 where
@@ -59,7 +60,7 @@ unless-done false number place l h = absurd (let z : ⊥ = omega arith in z)
 
 pub each-done : (base number : ℕ) (ok : ℕ → Bool) (n : ℕ) → 0 < number → each base number ok n .number ≡ 0 → Every ok n
 unfolding each
-each-done base number ok n l h = none-first ok n (leb-true _ _ (unless-done _ number _ l h))
+each-done base number ok n l h = all-every n ok (unless-done _ number _ l h)
 
 -- the other way: a check that passes is done, and the chain goes on
 pub or-else-pass : {v w : Verdict} → v ≡ done → w ≡ done → orElse v w ≡ done
@@ -72,7 +73,7 @@ unless-pass number place h = rw h
 
 pub each-pass : (base number : ℕ) (ok : ℕ → Bool) (n : ℕ) → Every ok n → each base number ok n ≡ done
 unfolding each
-each-pass base number ok n all = unless-pass number _ (le-leb n (firstBad ok n) (let h = first-none ok n all in omega arith))
+each-pass base number ok n every = unless-pass number _ (every-all n ok every)
 
 -- a chain in code, link by link
 pub or-else-is : {r v w : Verdict} {a b : Verdict} → r ≡ orElse v w → v ≡ a → w ≡ b → r ≡ orElse a b
@@ -118,9 +119,9 @@ chain-hit (suc n) v (suc k) l before h =
     ∙ chain-hit n (λ (j : ℕ). v (suc j)) k (le-of-suc-le-suc l) (λ j m. before (suc j) (suc-le-suc m)) h
 
 -- a check that counts its places from 0, as a scan's answer gives it
-pub each-here : (number : ℕ) (ok : ℕ → Bool) (n : ℕ) → each 0 number ok n ≡ unless (leb n (firstBad ok n)) number (firstBad ok n)
+pub each-here : (number : ℕ) (ok : ℕ → Bool) (n : ℕ) → each 0 number ok n ≡ unless (all n ok) number (firstBad ok n)
 unfolding each
-each-here number ok n = ap (unless (leb n (firstBad ok n)) number) (zero-add (firstBad ok n))
+each-here number ok n = ap (unless (all n ok) number) (zero-add (firstBad ok n))
 
 -- number and place fit their fields in each link of a chain
 pub or-else-narrow : (v w : Verdict) → Narrow v → (v .number ≡ 0 → Narrow w) → Narrow (orElse v w)

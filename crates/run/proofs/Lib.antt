@@ -1,5 +1,6 @@
 pub mod Bools
 pub mod First
+pub mod Passing
 pub mod Chain
 pub mod Each
 pub mod Front

@@ -13,6 +13,10 @@ unfoldable pub firstBad : (ℕ → Bool) → ℕ → ℕ
 firstBad ok zero = 0
 firstBad ok (suc n) = cond (ok 0) (suc (firstBad (λ (k : ℕ). ok (suc k)) n)) 0
 
+-- whether it fails at none
+abbrev pub all : ℕ → (ℕ → Bool) → Bool
+all n ok = leb n (firstBad ok n)
+
 -- the test holds at every place below n
 abbrev pub Every : (ℕ → Bool) → ℕ → Type 0
 Every ok n = (k : ℕ) → k < n → ok k ≡ true

@@ -2,9 +2,9 @@
 -- Assumes nothing.
 use Prim.Native.Nat.{ℕ, zero, suc, _+_, _<_}
 use mathlib.Core.Bool.{Bool, cond}
-use lib.Dec.{eqb, leb}
+use lib.Dec.{eqb}
 use Rattle.run.specs.declared.Verdict.{Verdict}
-use Rattle.run.specs.First.{firstBad}
+use Rattle.run.specs.First.{firstBad, all}
 
 abbrev pub refused : ℕ → ℕ → Verdict
 refused number place = record { number = number; place = place }
@@ -23,7 +23,7 @@ unless ok number place = cond ok done (refused number place)
 
 -- refused at the first of n places at which the test fails; places count from base
 unfoldable pub each : ℕ → ℕ → (ℕ → Bool) → ℕ → Verdict
-each base number ok n = unless (leb n (firstBad ok n)) number (base + firstBad ok n)
+each base number ok n = unless (all n ok) number (base + firstBad ok n)
 
 -- the first of n verdicts that refuses: 'slot by slot'
 unfoldable pub chain : ℕ → (ℕ → Verdict) → Verdict

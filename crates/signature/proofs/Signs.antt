@@ -4,13 +4,12 @@ use mathlib.Core.Path.{_≡_, refl, ap, _∙_}
 use mathlib.Core.Bool.{Bool, true, false, cond}
 use Prim.Native.Nat.{ℕ, _+_, _*_, _/_, _%_, _<_}
 use native.Mathlib.Omega.{arith}
-use borrow.Author.Tests.{leb-true}
 use lib.Bits.{bitAnd, and-comm}
 use lib.Count.{ones}
-use lib.Dec.{eqb, leb}
+use lib.Dec.{eqb}
 use lib.IntN.{pos, negsuc, _+ℤ_, _*ℤ_}
-use Rattle.run.specs.First.{firstBad}
-use Rattle.run.proofs.First.{none-first}
+use Rattle.run.specs.First.{firstBad, all}
+use Rattle.run.proofs.Passing.{all-every}
 use Rattle.whole.specs.Bound.{Bounded}
 use Rattle.whole.specs.Equal.{eqZ}
 use Rattle.whole.specs.Sum.{sum}
@@ -56,16 +55,16 @@ half-test : ℕ → ℕ → Bool
 half-test s t = eqZ (sum 16 (λ (k : ℕ). sign s (2 * k) *ℤ sign t (2 * k))) (cond (eqb s t) (pos 16) (pos 0))
 
 row-test : ℕ → Bool
-row-test s = leb 16 (firstBad (half-test s) 16)
+row-test s = all 16 (half-test s)
 
-all-rows : leb 16 (firstBad row-test 16) ≡ true
+all-rows : all 16 row-test ≡ true
 unfolding row-test half-test firstBad sign isPlus sum ones
 all-rows = refl
 
 pub half-dot : (s t : ℕ) → s < 16 → t < 16 → sum 16 (λ (k : ℕ). sign s (2 * k) *ℤ sign t (2 * k)) ≡ cond (eqb s t) (pos 16) (pos 0)
 unfolding row-test half-test
 half-dot s t h l =
-    eqZ-true _ _ (none-first (half-test s) 16 (leb-true 16 _ (none-first row-test 16 (leb-true 16 _ all-rows) s h)) t l)
+    eqZ-true _ _ (all-every 16 (half-test s) (all-every 16 row-test all-rows s h) t l)
 
 twice : (b : Bool) → cond b (pos 16) (pos 0) +ℤ cond b (pos 16) (pos 0) ≡ cond b (pos 32) (pos 0)
 twice true = refl

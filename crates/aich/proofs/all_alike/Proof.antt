@@ -14,7 +14,7 @@ use mir.Facts.{toZ-ofZ}
 use borrow.Author.Needs.{needs}
 use borrow.Author.Tests.{not-true, not-false}
 use Rattle.aich.specs.Method.{isPair, alike}
-use Rattle.aich.proofs.Passing.{Passing, pass-start, pass-good, pass-bad, pass-end}
+use Rattle.run.proofs.Passing.{Passing, pass-start, pass-good, pass-bad, pass-end}
 use Rattle.aich.proofs.all_alike.Statement.{statement}
 use Rattle.aich.proofs.all_alike.Tie as tie
 

@@ -5,7 +5,7 @@ use lib.ListN.{length}
 use denote.Ref.{now}
 use Rattle.aich.specs.Method.{alike, fitsAt, halfOf, unitsOf}
 use Rattle.aich.proofs.Laws.{half-length}
-use Rattle.aich.proofs.Passing.{passed}
+use Rattle.run.proofs.Passing.{passed}
 use Rattle.aich.proofs.Reading.{firsts-small, units-are, units-give}
 use Rattle.aich.proofs.Checks.{headed, unlike-stops, unfit-stops, read-head-refused, read-refused, read-done}
 use borrow.Author.Needs.{needs}

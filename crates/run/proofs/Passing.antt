@@ -6,9 +6,8 @@ use Prim.Native.Nat.{ℕ, _+_, _≤_, _<_}
 use native.Mathlib.Omega.{arith}
 use borrow.Author.Count.{below-more}
 use borrow.Author.Tests.{le-leb, lt-leb, leb-true, leb-false, not-false}
-use Rattle.run.specs.First.{firstBad, Every}
+use Rattle.run.specs.First.{firstBad, all, Every}
 use Rattle.run.proofs.First.{first-is, first-below, first-fails, first-none, none-first}
-use Rattle.aich.specs.Method.{all}
 
 pub all-every : (n : ℕ) (ok : ℕ → Bool) → all n ok ≡ true → Every ok n
 all-every n ok e = none-first ok n (leb-true n _ e)
