@@ -1,7 +1,7 @@
 -- The sums over signatures undo themselves up to 16, so the indicators of values are those that give them; what no check refused; sizes.
 -- Assumes nothing.
-use mathlib.Core.Path.{_≡_, refl, sym, ap, ap₂, _∙_}
-use mathlib.Core.Bool.{Bool, true, false, cond, _||_}
+use mathlib.Core.Path.{_≡_, refl, sym, ap, ap₂, _∙_, subst}
+use mathlib.Core.Bool.{Bool, true, false, cond}
 use mathlib.Core.List.{List}
 use Prim.Native.Nat.{ℕ, zero, suc, _+_, _*_, _/_, _<_}
 use native.Mathlib.Omega.{arith}
@@ -9,6 +9,7 @@ use borrow.Author.Tests.{eq-eqb, ne-eqb}
 use lib.Dec.{eqb}
 use lib.ListN.{length, getD}
 use lib.IntN.{ℤ, pos, negsuc, negℤ, _+ℤ_, _*ℤ_, *ℤ-zero}
+use lib.Signed.{ltZ}
 use Rattle.run.proofs.Table.{tab-length, tab-at}
 use Rattle.whole.specs.Bound.{Bounded}
 use Rattle.whole.specs.Equal.{eqZ}
@@ -19,7 +20,7 @@ use Rattle.whole.proofs.Laws.{*ℤ-assoc, factors}
 use Rattle.whole.proofs.Sum.{sum-same, sum-plus, sum-times, times-sum, sum-swap, sum-one, sum-pairs, sum-bound}
 use Rattle.signature.specs.Rule.{sign}
 use Rattle.aich.specs.Rule.{valueAt, valuesOf, correlation, unit, indicatorsIn}
-use Rattle.aich.specs.Method.{halfOf, firsts, fits16}
+use Rattle.aich.specs.Method.{halfOf, firsts, signOf, fits16}
 use Rattle.signature.proofs.Signs.{sign-small, sign-half, sign-second, sign-swap, half-dot}
 
 abbrev pub entry : List ℤ → ℕ → ℤ
@@ -117,20 +118,31 @@ unfolding unit
 unit-back = each-unit (λ (y : ℤ). unit 32 (y *ℤ pos 16 +ℤ y *ℤ pos 16) ≡ y) refl refl refl
 
 pub unit-fits : (y : ℤ) → Bounded 1 y → fits16 (y *ℤ pos 16) ≡ true
-unfolding fits16
+unfolding fits16 signOf
 unit-fits = each-unit (λ (y : ℤ). fits16 (y *ℤ pos 16) ≡ true) refl refl refl
+
+-- a sign is one of three
+each-sign : (P : ℤ → Type 0) → P (negsuc 0) → P (pos 0) → P (pos 1) → (z : ℤ) → P (signOf z)
+unfolding signOf
+each-sign P a b c z = side (ltZ (pos 0) z) (ltZ z (pos 0))
+  where
+    side : (p q : Bool) → P (cond p (pos 1) (cond q (negsuc 0) (pos 0)))
+    side true q = c
+    side false true = a
+    side false false = b
+
+pub sign-of-small : (z : ℤ) → Bounded 1 (signOf z)
+sign-of-small = each-sign (Bounded 1) (b-lit tt) (b-lit tt) (b-lit tt)
 
 -- what holds of -16, 0 and 16 holds of whatever fits
 each-fit : (P : ℤ → Type 0) → P (negsuc 15) → P (pos 0) → P (pos 16) → (z : ℤ) → fits16 z ≡ true → P z
 unfolding fits16
-each-fit P a b c z e =
-    either (eqZ z (pos 0) || eqZ z (pos 16)) (eqZ z (negsuc 15)) e
-    (λ f. either (eqZ z (pos 0)) (eqZ z (pos 16)) f (λ g. rw (eqZ-true z (pos 0) g) b) (λ g. rw (eqZ-true z (pos 16) g) c))
-    (λ g. rw (eqZ-true z (negsuc 15) g) a)
-  where
-    either : (p q : Bool) {X : Type 0} → (p || q) ≡ true → (p ≡ true → X) → (q ≡ true → X) → X
-    either true q h f g = f refl
-    either false q h f g = g h
+each-fit P a b c z e = subst P (eqZ-true _ _ e) (each-sign (λ (y : ℤ). P (pos 16 *ℤ y)) a b c z)
+
+-- its indicator is its sign
+pub fit-sign : (z : ℤ) → fits16 z ≡ true → unit 16 z ≡ signOf z
+unfolding unit signOf
+fit-sign = each-fit (λ (z : ℤ). unit 16 z ≡ signOf z) refl refl refl
 
 pub fit-is : (z : ℤ) → fits16 z ≡ true → z ≡ unit 16 z *ℤ pos 16
 unfolding unit

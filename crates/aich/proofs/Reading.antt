@@ -18,9 +18,9 @@ use Rattle.whole.proofs.Bound.{b-range, range-low, range-high, times-cancel}
 use Rattle.whole.proofs.Equal.{eqZ-true, eq-eqZ}
 use Rattle.aich.specs.Rule.{valueAt, unit, indicatorsIn}
 use Rattle.aich.specs.Outcome.{agrees, given}
-use Rattle.aich.specs.Method.{Sixteen, halfOf, firsts, isPair, alike, fitsAt, unitsOf}
+use Rattle.aich.specs.Method.{Sixteen, halfOf, firsts, isPair, alike, signOf, fitsAt, unitsOf}
 use Rattle.run.proofs.Passing.{all-every, every-all}
-use Rattle.aich.proofs.Laws.{entry, indicators-length, value-half, value-times, value-small, half-at, half-twice, unit-fits, fit-is, fit-twice, indicator-at, indicator-small, firsts-length, first-at, pairs-correlate, given-alike, given-sum}
+use Rattle.aich.proofs.Laws.{entry, indicators-length, value-half, value-times, value-small, half-at, half-twice, unit-fits, fit-is, fit-sign, fit-twice, indicator-at, indicator-small, firsts-length, first-at, pairs-correlate, given-alike, given-sum}
 
 and-parts : (a b : Bool) → (a && b) ≡ true → (a ≡ true) × (b ≡ true)
 and-parts true b e = (refl, e)
@@ -56,9 +56,9 @@ pub units-length : (sums : List ℤ) → length (unitsOf sums) ≡ 16
 unfolding unitsOf
 units-length sums = tab-length 16 _
 
-pub units-at : (sums : List ℤ) (s : ℕ) → s < 16 → entry (unitsOf sums) s ≡ unit 16 (entry sums s)
+pub units-at : (sums : List ℤ) (s : ℕ) → s < 16 → entry (unitsOf sums) s ≡ signOf (entry sums s)
 unfolding unitsOf
-units-at sums s h = tab-at 16 (λ (t : ℕ). unit 16 (entry sums t)) s (pos 0) h
+units-at sums s h = tab-at 16 (λ (t : ℕ). signOf (entry sums t)) s (pos 0) h
 
 -- indicators give the values: both tests pass at every place
 module _ (v : List ℤ) (is : given (indicatorsIn v) v ≡ true) where
@@ -88,7 +88,8 @@ module _ (v : List ℤ) (like : Every (alike v) 16) (fit : Every (fitsAt (halfOf
 
   pub units-are : unitsOf (halfOf (firsts v)) ≡ indicatorsIn v
   unfolding unitsOf
-  units-are = sym (tab-is (pos 0) (indicatorsIn v) 16 _ (indicators-length v) indicator-is)
+  units-are =
+      sym (tab-is (pos 0) (indicatorsIn v) 16 _ (indicators-length v) (λ s h. indicator-is s h ∙ fit-sign (entry (halfOf (firsts v)) s) (fit s h)))
 
   value-is : (k : ℕ) → k < 16 → valueAt (indicatorsIn v) (2 * k) ≡ entry v (2 * k)
   value-is k h =

@@ -3,16 +3,17 @@
 -- Assumes nothing.
 use Prim.Native.Nat.{ℕ, _+_, _*_, _/_, _%_, _<_}
 use mathlib.Core.Path.{_≡_}
-use mathlib.Core.Bool.{Bool, cond, _&&_, _||_}
+use mathlib.Core.Bool.{Bool, cond, _&&_}
 use mathlib.Core.List.{List}
 use lib.Dec.{eqb}
 use lib.ListN.{length, getD}
-use lib.IntN.{ℤ, pos, negsuc, _+ℤ_, _-ℤ_}
+use lib.IntN.{ℤ, pos, negsuc, _+ℤ_, _-ℤ_, _*ℤ_}
+use lib.Signed.{ltZ}
 use Rattle.run.specs.Ranges.{between}
 use Rattle.run.specs.Table.{tab}
 use Rattle.whole.specs.Equal.{eqZ}
 use Rattle.whole.specs.Bound.{Bounded}
-use Rattle.aich.specs.Rule.{valueAt, unit}
+use Rattle.aich.specs.Rule.{valueAt}
 
 -- sixteen numbers, each in -B to B
 pub record Sixteen (B : ℕ) (x : List ℤ) : Type 0 where
@@ -42,13 +43,17 @@ isPair a b = eqZ a b && between (negsuc 15) (pos 16) a
 abbrev pub alike : List ℤ → ℕ → Bool
 alike values k = isPair (getD values (2 * k) (pos 0)) (getD values (2 * k + 1) (pos 0))
 
+-- the sign of a sum
+unfoldable pub signOf : ℤ → ℤ
+signOf z = cond (ltZ (pos 0) z) (pos 1) (cond (ltZ z (pos 0)) (negsuc 0) (pos 0))
+
 -- 16 times an indicator
 unfoldable pub fits16 : ℤ → Bool
-fits16 z = eqZ z (pos 0) || eqZ z (pos 16) || eqZ z (negsuc 15)
+fits16 z = eqZ (pos 16 *ℤ signOf z) z
 
 abbrev pub fitsAt : List ℤ → ℕ → Bool
 fitsAt sums s = fits16 (getD sums s (pos 0))
 
--- the indicators of such sums
+-- the indicators of sums that fit
 unfoldable pub unitsOf : List ℤ → List ℤ
-unitsOf sums = tab 16 (λ (s : ℕ). unit 16 (getD sums s (pos 0)))
+unitsOf sums = tab 16 (λ (s : ℕ). signOf (getD sums s (pos 0)))

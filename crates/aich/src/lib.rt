@@ -6,9 +6,9 @@ use run::unless;
 ghost use mathlib.Core.Path.{_≡_};
 ghost use lib.ListN.{length};
 ghost use Rattle.run.specs.First.{all};
-ghost use Rattle.aich.specs.Rule.{valuesOf, unit};
+ghost use Rattle.aich.specs.Rule.{valuesOf};
 ghost use Rattle.aich.specs.Outcome.{mapVerdict, Map, readHead, Read};
-ghost use Rattle.aich.specs.Method.{Sixteen, folded, halfOf, firsts, isPair, alike, fits16, fitsAt, unitsOf};
+ghost use Rattle.aich.specs.Method.{Sixteen, folded, halfOf, firsts, isPair, alike, signOf, fits16, fitsAt, unitsOf};
 
 // Entries i and i + 8 become their sum and their difference, side by side.
 fn fold(x: &[i32]) -> [i32; 16]
@@ -123,17 +123,24 @@ fn every_second(values: &[i32]) -> [i32; 16]
     each
 }
 
-// 16 times an indicator.
+// The sign of a sum.
+fn sign_of(sum: i32) -> i32
+    ensures { λ r. ⌜ r ≡ signOf sum ⌝ }
+{
+    if 0 < sum {
+        return 1;
+    }
+    if sum < 0 {
+        return -1;
+    }
+    0
+}
+
+// 16 times an indicator. Three numbers to compare with would be a table of bits, one sum at a time.
 fn fits(sum: i32) -> bool
     ensures { λ r. ⌜ r ≡ fits16 sum ⌝ }
 {
-    if sum == 0 {
-        return true;
-    }
-    if sum == 16 {
-        return true;
-    }
-    sum == -16
+    16 * sign_of(sum) == sum
 }
 
 // Whether every signature's sum is an indicator's.
@@ -152,26 +159,14 @@ fn all_fit(sums: &[i32]) -> bool
     good
 }
 
-// The indicator whose sum this is.
-fn unit_of(sum: i32) -> i32
-    ensures { λ r. ⌜ r ≡ unit 16 sum ⌝ }
-{
-    if sum == 16 {
-        return 1;
-    }
-    if sum == -16 {
-        return -1;
-    }
-    0
-}
-
+// The indicators of sums that fit are their signs.
 fn write_indicators(sums: &[i32], indicators: &mut [i32])
     requires { ⌜ (length (now sums) ≡ 16) × (length (now indicators) ≡ 16) ⌝ }
     ensures { λ _. ⌜ now (indicators .exit) ≡ unitsOf (now (sums .entry)) ⌝ }
 {
     let mut s = 0;
     while s < 16 {
-        indicators[s] = unit_of(sums[s]);
+        indicators[s] = sign_of(sums[s]);
         s += 1;
     }
 }

@@ -8,8 +8,7 @@ use mir.Syntax.{w32}
 use mir.Val.{toZ, ofZ}
 use mir.Facts.{toZ-ofZ}
 use Rattle.run.proofs.Front.{Front, front-none, front-length, front-store, front-all}
-use Rattle.aich.specs.Rule.{unit}
-use Rattle.aich.specs.Method.{unitsOf}
+use Rattle.aich.specs.Method.{signOf, unitsOf}
 use Rattle.aich.proofs.Reading.{units-length, units-at}
 use borrow.Author.Needs.{needs}
 use Rattle.aich.proofs.write_indicators.Statement.{statement}
@@ -24,14 +23,14 @@ abbrev μ-loop : tie.MeasureT-loop
 loop-holds : tie.Need-loop-holds Inv-loop μ-loop
 loop-holds c = (omega arith, front-none (units-length _ ∙ sym (c .pre .1)))
 
-mul-unit-of : tie.Need-mul-unit-of Inv-loop μ-loop
-mul-unit-of c = search needs
+mul-sign-of : tie.Need-mul-sign-of Inv-loop μ-loop
+mul-sign-of c = search needs
 
-shared-slice-copy-out-unit-of : tie.Need-shared-slice-copy-out-unit-of Inv-loop μ-loop
-shared-slice-copy-out-unit-of c = search needs
+shared-slice-copy-out-sign-of : tie.Need-shared-slice-copy-out-sign-of Inv-loop μ-loop
+shared-slice-copy-out-sign-of c = search needs
 
-unit-of-requires : tie.Need-unit-of-requires Inv-loop μ-loop
-unit-of-requires c κs = search needs
+sign-of-requires : tie.Need-sign-of-requires Inv-loop μ-loop
+sign-of-requires c κs = search needs
 
 mul-t9 : tie.Need-mul-t9 Inv-loop μ-loop
 mul-t9 c = search needs
@@ -50,10 +49,10 @@ loop-again c =
     let head = c .before .before .before in
     let f = head .loop .inv .1 in
     let l = front-length f in
-    let kept : toZ w32 (ofZ w32 (c .unit-of .result)) ≡ c .unit-of .result = search needs in (
+    let kept : toZ w32 (ofZ w32 (c .sign-of .result)) ≡ c .sign-of .result = search needs in (
       omega arith,
       front-store (pos 0) f (omega arith)
-          (kept ∙ c .unit-of .ensures ∙ ap (unit 16) (toZ-ofZ {w = w32} (record { sfits = c .before .unit-of-arg .given })) ∙ sym (units-at (head .before .args .sums .now) (head .loop .s) (c .before .before .loop-test .taken))),
+          (kept ∙ c .sign-of .ensures ∙ ap signOf (toZ-ofZ {w = w32} (record { sfits = c .before .sign-of-arg .given })) ∙ sym (units-at (head .before .args .sums .now) (head .loop .s) (c .before .before .loop-test .taken))),
     )
 
 same-length : tie.Need-same-length Inv-loop μ-loop
@@ -69,9 +68,9 @@ write-indicators-spec =
     Inv-loop
     μ-loop
     loop-holds
-    mul-unit-of
-    shared-slice-copy-out-unit-of
-    unit-of-requires
+    mul-sign-of
+    shared-slice-copy-out-sign-of
+    sign-of-requires
     mul-t9
     slice-set-from-indicators
     add-s
