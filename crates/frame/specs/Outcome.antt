@@ -1,4 +1,4 @@
--- Document 01, 'DPCH slot': what each call on a frame answers and leaves in each lent run, for all inputs.
+-- docs/RULES.md, 'DPCH slot': what each call on a frame answers and leaves in each lent run, for all inputs.
 -- Assumes nothing.
 use Prim.Native.Nat.{ℕ, _*_}
 use mathlib.Core.Path.{_≡_}

@@ -1,4 +1,4 @@
-// A frame of the downlink DPCH, fifteen slots of one format: its rule, promises and theorems, and the lengths of its parts: document 01, 'DPCH slot'; TS 25.211, 5.3.2.
+// A frame of the downlink DPCH, fifteen slots of one format: its rule, promises and theorems, and the lengths of its parts: docs/RULES.md, 'DPCH slot'; TS 25.211, 5.3.2.
 ghost use Rattle.frame.specs.Ready.{SizesOf};
 
 // The lengths of one slot's runs.

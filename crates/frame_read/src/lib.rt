@@ -1,4 +1,4 @@
-// A frame of the downlink DPCH, read (rule, promises and theorems are those of the crate `frame`): document 01, 'DPCH slot'; TS 25.211, 5.3.2.
+// A frame of the downlink DPCH, read (rule, promises and theorems are those of the crate `frame`): docs/RULES.md, 'DPCH slot'; TS 25.211, 5.3.2.
 use frame::sizes_of;
 use run::Verdict;
 use run::or_else;

@@ -1,4 +1,4 @@
-// The primary common control physical channel on two antennas, read (rule, promises and theorems are those of the crate `pccpch`): document 01, 'P-CCPCH'; TS 25.211, 5.3.3.3 and 5.3.3.3.1.
+// The primary common control physical channel on two antennas, read (rule, promises and theorems are those of the crate `pccpch`): docs/RULES.md, 'P-CCPCH'; TS 25.211, 5.3.3.3 and 5.3.3.3.1.
 use run::DTX;
 use run::Verdict;
 use run::found;

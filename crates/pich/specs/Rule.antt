@@ -1,4 +1,4 @@
--- Document 01, 'PICH'; TS 25.211, 5.3.3.10: the frame of paging indicators, and which indicator a higher-layer PI has.
+-- docs/RULES.md, 'PICH'; TS 25.211, 5.3.3.10: the frame of paging indicators, and which indicator a higher-layer PI has.
 -- Assumes nothing.
 use Prim.Native.Nat.{ℕ, _+_, _*_, _/_, _%_}
 use mathlib.Core.Bool.{Bool, cond, _||_}
@@ -8,7 +8,7 @@ use lib.Dec.{eqb, ltb}
 use Rattle.run.specs.Digits.{dtx}
 use Rattle.run.specs.Table.{tab}
 
--- 'Np = 18, 36, 72, or 144'
+-- Np: the indicators of a frame are 18, 36, 72 or 144
 unfoldable pub isNp : ℕ → Bool
 isNp np = eqb np 18 || eqb np 36 || eqb np 72 || eqb np 144
 

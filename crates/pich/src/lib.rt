@@ -1,4 +1,4 @@
-// The paging indicator channel, its numbers of indicators and q: document 01, 'PICH'; TS 25.211, 5.3.3.10.
+// The paging indicator channel, its numbers of indicators and q: docs/RULES.md, 'PICH'; TS 25.211, 5.3.3.10.
 use run::Verdict;
 use run::or_else;
 use run::refusal;

@@ -1,4 +1,4 @@
-// The paging indicator channel, read (rule, promises and theorems are those of the crate `pich`): document 01, 'PICH'; TS 25.211, 5.3.3.10.
+// The paging indicator channel, read (rule, promises and theorems are those of the crate `pich`): docs/RULES.md, 'PICH'; TS 25.211, 5.3.3.10.
 use pich::Indicator;
 use pich::is_np;
 use run::DTX;

@@ -7,7 +7,7 @@ ghost use Rattle.run.specs.Verdicts.{orElse, unless};
 
 pub mod refusal;
 
-// DTX as a digit: nothing is sent (document 01, 'Digits').
+// DTX as a digit: nothing is sent (docs/RULES.md, 'Digits').
 pub const DTX: u8 = 2;
 
 // What a call answers: 0 and 0 where it is done, else the refusal's number and place.

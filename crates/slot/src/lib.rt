@@ -1,4 +1,4 @@
-// One slot of the downlink DPCH: its rule, promises and theorems, and the checks of numbers and lengths: document 01, 'DPCH slot'; TS 25.211, 5.3.2.
+// One slot of the downlink DPCH: its rule, promises and theorems, and the checks of numbers and lengths: docs/RULES.md, 'DPCH slot'; TS 25.211, 5.3.2.
 use run::Verdict;
 use run::or_else;
 use run::refusal;

@@ -1,5 +1,5 @@
 // One slot of the downlink DPCH, read: its digits are checked by the crate `slot_check`, and then its fields are taken. Rule, promises and theorems are those of
-// the crate `slot`: document 01, 'DPCH slot'; TS 25.211, 5.3.2.
+// the crate `slot`: docs/RULES.md, 'DPCH slot'; TS 25.211, 5.3.2.
 use run::Verdict;
 use run::or_else;
 use run::refusal;

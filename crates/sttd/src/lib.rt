@@ -1,4 +1,4 @@
-// Space time block coding for two antennas, of digits: document 01, 'STTD'; TS 25.211, 5.3.1.1.1.
+// Space time block coding for two antennas, of digits: docs/RULES.md, 'STTD'; TS 25.211, 5.3.1.1.1.
 use run::Verdict;
 use run::or_else;
 use run::refusal;
