@@ -39,9 +39,10 @@ slotline:
 run: slotline
 	$(SLOTLINE) < examples/three_kinds.slt
 
-# docs/PROMISES.md against the source.
+# The pages, the header and the comments against the source; then the audit itself, tried on wrong words that it must find.
 audit:
-	python3 audit/promises.py
+	python3 -B audit/audit.py
+	python3 -B audit/test_audit.py
 
 # What needs no archive of the independent second program: its own tests, and the programs that judge job files, cases and random calls.
 judges:
