@@ -1,4 +1,4 @@
-# Targets: run (the program on an example job), test (the gate), lib (the proved archive for C), slotline (the program), install, bench; and the steps of
+# Targets: run (the program on an example job), test (the gate), lib (the proved archive for C), slotline (the program), install, bench, pictures; and the steps of
 # test: fmt, audit, second, jobs, cases, host, fuzz, package. tools-run and tools-test look for what run and test need.
 CFLAGS = -std=c11 -O2 -g -Wall -Wextra -Werror
 SANITIZE = -fsanitize=address,undefined -fno-sanitize-recover=all
@@ -6,7 +6,7 @@ LIB = target/staticlib/libslt.a
 SLOTLINE = target/bin/slotline
 SECOND = target/second/release
 
-.PHONY: test tools-run tools-test steps lib slotline run fmt audit judges second jobs cases host fuzz install package bench clean
+.PHONY: test tools-run tools-test steps lib slotline run fmt audit pictures judges second jobs cases host fuzz install package bench clean
 
 # What the steps stand on is proved first, then the steps go two at a time, the output of each in one piece. rt ci comes last: it proves every crate from
 # nothing, tries every must-fail edit, and prints the verdict. It starts four checks at a time, so that two cores stay busy while one waits for its fellows.
@@ -43,10 +43,14 @@ slotline: | tools-run
 run: slotline
 	$(SLOTLINE) < examples/three_kinds.slt
 
-# The pages, the header and the comments against the source; then the audit itself, tried on wrong words that it must find.
+# The pages, the header, the comments and the pictures against the source; then the audit itself, tried on wrong words that it must find.
 audit:
 	python3 -B audit/audit.py
 	python3 -B audit/test_audit.py
+
+# The pictures of docs/, drawn anew from crates.txt and from the specs.
+pictures:
+	python3 -B audit/pictures.py
 
 # What needs no archive of the independent second program: its own tests, and the programs that judge job files, cases and random calls.
 judges:

@@ -12,10 +12,11 @@ import cites
 import header
 import names
 import pages
+import pictures
 import promises
 import refusals
 
-CHECKS = (pages, header, cites, refusals, promises)
+CHECKS = (pages, header, cites, refusals, promises, pictures)
 
 
 def faults(root):

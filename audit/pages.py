@@ -5,6 +5,7 @@ A name in code style is what stands between backticks, in a block of code, or in
 """
 import fnmatch
 import functools
+import posixpath
 import re
 
 import header
@@ -171,6 +172,14 @@ def both_doors(tree, path):
     return [name for name in (path, path.replace("/specs/", "/proofs/")) if tree.has(name)]
 
 
+def broken_links(tree, page):
+    """A link or a picture leads to a file, from the page's own folder."""
+    text = tree.text(page)
+    for match in re.finditer(r"\]\(([^)#:\s]+)\)", text):
+        if not tree.has(posixpath.normpath(posixpath.join(posixpath.dirname(page), match[1]))):
+            yield text.count("\n", 0, match.start()) + 1, f"there is no {match[1]}"
+
+
 def page_faults(tree, page):
     text = tree.text(page)
     for line in uneven(text):
@@ -180,6 +189,7 @@ def page_faults(tree, page):
             yield line, f"`{word}` names nothing that there is"
     for line, code in commands(text):
         yield from ((line, f"`{word}` names nothing that there is") for word in in_block(tree, code))
+    yield from broken_links(tree, page)
     yield from of_crate(tree, text)
     yield from in_file(tree, text)
 

@@ -35,6 +35,7 @@ PLANTS = (
     ("a make target", "docs/SPEED.md", "`make bench`", "`make benches`", "make benches"),
     ("a make target in a block", "README.md", "    make lib ", "    make libs ", "make libs"),
     ("a file in a block", "README.md", "< examples/all_formats.slt", "< examples/no_formats.slt", "examples/no_formats.slt"),
+    ("a picture that is shown", "README.md", "](docs/crates.svg)", "](docs/creates.svg)", "docs/creates.svg"),
     ("a word of the man page", "packaging/slotline.1", ".I docs/JOBFILE.md", ".I docs/JOBS.md", "docs/JOBS.md"),
     ("a backtick", "docs/SPEED.md", "", "\nOne ` alone.\n", "backtick"),
     ("a section", "crates/pich/src/lib.rt", "", "// docs/RULES.md, 'PICH' and\n// 'PICH tail'.\n", "PICH tail"),
@@ -45,6 +46,11 @@ PLANTS = (
     ("a refusal of the man page", "packaging/slotline.1", ".B 8\n", ".B 18\n", "packaging/slotline.1: refusal "),
     ("a refusal of the header", "include/slt.h", "SLT_REFUSED_PILOT 7u", "SLT_REFUSED_PILOT 17u", "PILOT = "),
     ("a refusal of the code", "crates/run/src/refusal.rt", "PILOT: usize = 7;", "PILOT: usize = 17;", "PILOT"),
+    ("a crate that a picture lacks", "crates.txt", "\nslotline: run", "\nslotlines: run", ""),
+    ("a line of a picture", "docs/slots.svg", "format 16", "format 17", "docs/slots.svg"),
+    ("a number of a picture", "crates/dpch/specs/Formats.antt", "row 0 4 2 0 4 10", "row 0 2 4 0 4 10", ""),
+    ("a form that a picture reads", "crates/pich/specs/Rule.antt", "width np = 288 / np", "width np = 288 / (np + 0)", "docs/slots.svg"),
+    ("a format of the rules", "docs/RULES.md", "\n| 9 | 6 | 26 |", "\n| 9 | 6 | 24 |", "docs/RULES.md"),
     ("a refusal of the specs", "crates/run/specs/Refusals.antt", "pilotRefused = 7", "pilotRefused = 17", ""),
 )
 
