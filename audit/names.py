@@ -13,14 +13,14 @@ ITEM = re.compile(r"^(?:pub(?:\(crate\))? )?(?:extern \"C\" )?(?:fn|struct|enum|
 PUBLIC = re.compile(r"^pub (extern \"C\" )?fn (\w+)", re.M)
 
 
-def declared(text):
-    """The names that a file of antt declares, but for the modules that it lists and the fields of its records."""
+def declared(text, fields=False):
+    """The names that a file of antt declares, but for the modules that it lists; or else the fields of its records."""
     found, record = set(), False
     for line in text.splitlines():
         match = DECLARED.match(line)
         if line and not line[0].isspace():
             record = " record " in f" {line}" and "where" in line
-        if match and not line.startswith("pub mod ") and not (match[1] and record):
+        if match and not line.startswith("pub mod ") and fields == bool(match[1] and record):
             found.add(match[2])
     return found
 
@@ -107,6 +107,11 @@ class Tree:
         return self.by_crate("crates/*/specs/*.antt", lambda path: declared(self.text(path)))
 
     @functools.cached_property
+    def claims(self):
+        """The fields of the records of specs/: what a theorem or a promise says, one by one."""
+        return self.by_crate("crates/*/specs/*.antt", lambda path: declared(self.text(path), fields=True))
+
+    @functools.cached_property
     def theorems(self):
         """Theorems and laws: what the proofs of a crate hand to others."""
         return self.by_crate("crates/*/proofs/*.antt", lambda path: declared(self.text(path)))
@@ -153,7 +158,7 @@ class Tree:
         found = set()
         for name in self.crates:
             if name == crate or name.startswith(crate + "_"):
-                found |= self.definitions[name] | self.theorems[name] | self.edits[name]
+                found |= self.definitions[name] | self.claims[name] | self.theorems[name] | self.edits[name]
                 found |= {item.rpartition("::")[2] for item in self.items[name]}
         return found
 

@@ -18,7 +18,7 @@ WORDS = {
     "functions of the provers' libraries": "min, replicate",
     "the kit's own programs": "rt, rattle, antt",
     "variables of a formula on the page": "alone, base",
-    "bytes and digits": "+, -",
+    "digits, and bytes of a file that is refused": "+, -, SLX, SL",
     "what a page writes where any name may stand": "NAME, file",
 }
 KNOWN = {word for words in WORDS.values() for word in words.split(", ")}
@@ -30,9 +30,12 @@ TEXTS = {
     "N passed, 0 failed",
     "NAME proved (N s)",
 }
+# Columns whose words are wrong on purpose, and what tries each of them.
+FREE = {"there stands": "examples/try_mistakes.py"}
 RT = {"check", "ci", "dev", "fmt", "must-fail", "prove", "staticlib", "try"}
-# A line that slotline prints: its first word, and words in capitals for what changes.
+# A line that slotline prints: its first word, and words in capitals for what changes. A refusal that is printed has a number that there is.
 PRINTED = re.compile(r"(SLT|AICH|PICH|DPCH|refused)( 1)?( [A-Z]+)*")
+REFUSED = re.compile(r"refused (\d+) (\d+)")
 PATH = re.compile(r"[\w.*-]*(/[\w.*-]*)+|[\w*-]*\.(md|antt|rt|rs|c|h|py|sh|txt|slt|svg|a|1|edit)")
 
 
@@ -45,9 +48,24 @@ def pages(tree):
     return ["README.md", "CONTRIBUTING.md", *tree.under("docs/*.md")]
 
 
+def without_free(text):
+    """The page with the cells of the columns FREE left empty."""
+    place, lines = None, []
+    for line in text.splitlines():
+        cells = re.split(r"(?<!\\)\|", line)
+        if not line.startswith("|"):
+            place = None
+        elif place is None:
+            place = next((at for at, cell in enumerate(cells) if cell.strip() in FREE), -1)
+        elif place > 0:
+            cells[place:place + 1] = [""]
+        lines.append("|".join(cells))
+    return "\n".join(lines) + "\n"
+
+
 def spans(text):
     """What stands between backticks, outside blocks of code, with its line."""
-    prose = re.sub(r"^(?: {4}.*\n)+", blank, re.sub(r"^```.*?^```$", blank, text, flags=re.S | re.M), flags=re.M)
+    prose = re.sub(r"^(?: {4}.*\n)+", blank, re.sub(r"^```.*?^```$", blank, without_free(text), flags=re.S | re.M), flags=re.M)
     for match in re.finditer(r"`([^`]*)`", prose):
         yield prose.count("\n", 0, match.start()) + 1, " ".join(match[1].split())
 
@@ -104,14 +122,14 @@ def is_item(tree, word):
 
 
 def is_call(tree, word):
-    """name(arguments): of a C call as many as the header has, where `n` is a length; else of a function of some crate."""
-    match = re.fullmatch(r"(\w+)\(([^()]*)\)", word)
+    """name(arguments): of a C call as many as the header has, where `n` is a length; else of a macro, or of a function of some crate."""
+    match = re.fullmatch(r"([\w:]+)\(([^()]*)\)", word)
     if not match:
         return False
     counts = {name: len(kinds) - 1 for name, kinds in header.declared(tree).items()}
     if match[1] in counts:
         return counts[match[1]] == len(match[2].split(","))
-    return match[1] in header.others(tree) or f"fn {match[1]}(" in "\n".join(map(tree.text, tree.under("crates/*/src/*.rt")))
+    return match[1] in header.others(tree) or is_item(tree, match[1]) or f"fn {match[1]}(" in "\n".join(map(tree.text, tree.under("crates/*/src/*.rt")))
 
 
 def is_command(tree, word):
@@ -140,7 +158,16 @@ KINDS = (is_name, is_path, is_item, is_call, is_command, is_expression)
 
 
 def known(tree, word):
+    refusal = REFUSED.fullmatch(word)
+    if refusal:
+        return re.search(rf"^\w+Refused = {refusal[1]}$", tree.text("crates/run/specs/Refusals.antt"), re.M) is not None
     return word in TEXTS or PRINTED.fullmatch(word) is not None or any(kind(tree, word) for kind in KINDS)
+
+
+def of_program(text, word):
+    """A piece of the program in Python that the page itself shows."""
+    programs = re.findall(r"^```python\n(.*?)^```$", text, re.S | re.M)
+    return not re.fullmatch(r"[\w-]+", word) and any(word in program for program in programs)
 
 
 def in_block(tree, line):
@@ -185,7 +212,7 @@ def page_faults(tree, page):
     for line in uneven(text):
         yield line, "a backtick without its fellow"
     for line, word in spans(text):
-        if not word or not known(tree, word):
+        if not word or not known(tree, word) and not of_program(text, word):
             yield line, f"`{word}` names nothing that there is"
     for line, code in commands(text):
         yield from ((line, f"`{word}` names nothing that there is") for word in in_block(tree, code))

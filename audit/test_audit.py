@@ -36,6 +36,7 @@ PLANTS = (
     ("a make target in a block", "README.md", "    make lib ", "    make libs ", "make libs"),
     ("a file in a block", "README.md", "< examples/all_formats.slt", "< examples/no_formats.slt", "examples/no_formats.slt"),
     ("a picture that is shown", "README.md", "](docs/crates.svg)", "](docs/creates.svg)", "docs/creates.svg"),
+    ("a refusal that is printed", "docs/JOBFILE.md", "`refused NUMBER PLACE`", "`refused 99 0`", "refused 99 0"),
     ("a word of the man page", "packaging/slotline.1", ".I docs/JOBFILE.md", ".I docs/JOBS.md", "docs/JOBS.md"),
     ("a backtick", "docs/SPEED.md", "", "\nOne ` alone.\n", "backtick"),
     ("a section", "crates/pich/src/lib.rt", "", "// docs/RULES.md, 'PICH' and\n// 'PICH tail'.\n", "PICH tail"),
