@@ -44,6 +44,19 @@ fn write_frame(np: usize, indicators: &[u8], frame: &mut [u8])
     write::fill(&mut frame[288..300], DTX);
 }
 
+// The same, with a loop for each number of indicators: where the width is a number and not a variable, a stretch is one store.
+fn write_by_np(np: usize, indicators: &[u8], frame: &mut [u8])
+    requires { ⌜ (isNp np ≡ true) × (length (now indicators) ≡ np) × (length (now frame) ≡ 300) ⌝ }
+    ensures { λ _. ⌜ now (frame .exit) ≡ frameOf np (now (indicators .entry)) ⌝ }
+{
+    match np {
+        18 => write_frame(18, indicators, frame),
+        36 => write_frame(36, indicators, frame),
+        72 => write_frame(72, indicators, frame),
+        _ => write_frame(144, indicators, frame),
+    }
+}
+
 // The frame of the indicators, or the refusal and the frame as it was.
 pub fn map(np: usize, indicators: &[u8], frame: &mut [u8]) -> Verdict
     ensures { λ r. ⌜ Map np (now (indicators .entry)) (now (frame .entry)) r (now (frame .exit)) ⌝ }
@@ -52,6 +65,6 @@ pub fn map(np: usize, indicators: &[u8], frame: &mut [u8]) -> Verdict
     if verdict.number != 0 {
         return verdict;
     }
-    write_frame(np, indicators, frame);
+    write_by_np(np, indicators, frame);
     verdict
 }
