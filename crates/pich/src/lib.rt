@@ -35,10 +35,10 @@ pub fn is_np(np: usize) -> bool
 pub fn first_digit(np: usize, q: Indicator) -> usize
     ensures { λ r. ⌜ r ≡ firstDigit np (q .0) ⌝ }
 {
-    if np <= q.0 {
-        return 288;
+    if q.0 < np {
+        return 288 / np * q.0;
     }
-    288 / np * q.0
+    288
 }
 
 fn q_verdict(np: usize, pi: Pi, sfn: usize) -> Verdict
