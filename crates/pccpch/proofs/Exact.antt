@@ -146,7 +146,7 @@ module _ (digits : List ℕ) (t : Taken digits 300 300) where
       ext-getD 0 (dataIn (frameOf digits)) digits (n ∙ sym (t .data-ok))
       (λ d l. let h : d < 270 = rw n at l in data-at (frameOf digits) d h ∙ frame-at digits d h)
 
-  mapped-accepted : readVerdict (frameOf digits) (secondOf digits) 270 ≡ done
+  pub mapped-accepted : readVerdict (frameOf digits) (secondOf digits) 270 ≡ done
   unfolding readVerdict readHead readBody
   mapped-accepted =
       let n = frame-length digits in
