@@ -2,7 +2,7 @@
 
 use std::fmt;
 
-/// A refusal as the rules document speaks of it: a number 1 to 13 and a place.
+/// A refusal as docs/RULES.md, 'Numbers a call can return', has it: a number and a place.
 #[derive(Clone, Copy, Debug, PartialEq, Eq)]
 pub struct Refusal {
     pub number: u16,

@@ -1,9 +1,9 @@
-//! What the programs of this package stand on: the rules, written a second time from the rules document alone
+//! What the programs of this package stand on: the rules, written a second time from docs/RULES.md alone
 //! (`rules/`), and the inputs that several try. Nothing here knows the library or the program that is judged.
 
 #![deny(warnings)]
 #![deny(unsafe_code)]
-// The document speaks of digits by their index, and so do the loops here.
+// The page speaks of digits by their index, and so do the loops here.
 #![allow(clippy::needless_range_loop)]
 
 pub mod answer;

@@ -1,16 +1,16 @@
 //! The independent second program.
 //!
-//! Every rule is written here a second time, from the rules document alone (`rules/`), and every call of the
+//! Every rule is written here a second time, from docs/RULES.md alone (`rules/`), and every call of the
 //! library is made on many inputs and compared with it (`compare/`): the number, the place, the value, and every
 //! element of every lent run afterwards. The first difference is printed and ends the run with status 1.
 //!
 //! One channel is one file in `rules/` and one in `compare/`; it is run by one line of `CHANNELS` below. Programs
-//! of their own compare the program that reads job files (`bin/jobs/`), print the cases that the rules document names
+//! of their own compare the program that reads job files (`bin/jobs/`), print the cases that docs/RULES.md names
 //! (`bin/cases/`), and draw calls at random for a C driver (`bin/fuzz/`).
 
 #![deny(warnings)]
 #![deny(unsafe_code)]
-// The document speaks of digits by their index, and so do the loops here.
+// The page speaks of digits by their index, and so do the loops here.
 #![allow(clippy::needless_range_loop)]
 
 mod compare;

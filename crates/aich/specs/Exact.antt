@@ -1,4 +1,4 @@
--- Demand 2 for the AICH, and what else document 01 says of its values. Each statement is proved in proofs/Exact.antt under its name in
+-- Demand 2 for the AICH (docs/RULES.md, 'The demands' and 'AICH'), and how large its values are. Each statement is proved in proofs/Exact.antt under its name in
 -- small letters.
 -- Assumes nothing.
 use Prim.Native.Nat.{ℕ}

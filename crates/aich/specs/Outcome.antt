@@ -1,4 +1,4 @@
--- Document 01, 'AICH': what each call answers and leaves in each lent run, for all inputs.
+-- docs/RULES.md, 'AICH': what each call answers and leaves in each lent run, for all inputs.
 -- Assumes nothing.
 use Prim.Native.Nat.{ℕ}
 use mathlib.Core.Path.{_≡_}

@@ -1,4 +1,4 @@
--- Document 01, 'AICH'; TS 25.211, 5.3.3.7: the values that indicators give, and the indicators of values.
+-- docs/RULES.md, 'AICH'; TS 25.211, 5.3.3.7: the values that indicators give, and the indicators of values.
 -- Assumes nothing.
 use Prim.Native.Nat.{ℕ}
 use mathlib.Core.Bool.{cond}

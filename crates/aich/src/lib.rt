@@ -1,4 +1,4 @@
-// The acquisition indicator channel: document 01, 'AICH'; TS 25.211, 5.3.3.7.
+// The acquisition indicator channel: docs/RULES.md, 'AICH'; TS 25.211, 5.3.3.7.
 use run::Verdict;
 use run::or_else;
 use run::refusal;

@@ -1,5 +1,5 @@
 // Answers questions on the proved calls, one line for each: the question as it stands, and what the call answers and leaves in each lent run.
-// The questions are the cases of document 01. The independent second program wrote them to the file stdin beside src/, and the same questions
+// The questions are the cases of docs/RULES.md, 'Marked examples', and others. The independent second program wrote them to the file stdin beside src/, and the same questions
 // with the answers of its own rules to the file stdout.
 //
 // The names say where a case is from: P1 to P12 are the marked examples, `other` the other examples, `refusal N` a row of the table of

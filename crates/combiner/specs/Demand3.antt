@@ -1,8 +1,6 @@
--- Demand 3, in its words: 'Take any sixteen acquisition indicators, and two whole-number complex gains, in range, not both zero, constant over the access slot.
--- Send the AICH from both antennas by STTD and add the two at the receiver. With no noise the combined correlation for each signature is exactly 32 times the sum of
--- the squared gains times that signature's own indicator. With whole-number noise, while noise and received sum are in range, it is that plus what the noise alone
--- would give.' What is sent is what `aich::map` and `sttd_values::values` promise, and what is heard is what `combiner::combine` promises. Each statement is proved in
--- proofs/Demand3.antt under its name in small letters.
+-- Demand 3 (docs/RULES.md, 'The demands'): what `combine` gives of the AICH that two antennas send by STTD, with no noise and with noise. What is sent is what
+-- `aich::map` and `sttd_values::values` promise, and what is heard is what `combiner::combine` promises. Each statement is proved in proofs/Demand3.antt under its name
+-- in small letters.
 -- Assumes nothing.
 use Prim.Native.Nat.{ℕ, _+_, _*_, _/_, _%_, _<_}
 use mathlib.Core.Path.{_≡_}
@@ -42,7 +40,7 @@ Sent =
     → Map indicators values a v → Values v out b w
     → (a ≡ done) × (v ≡ antenna1 indicators) × (b ≡ done) × (w ≡ antenna2 indicators)
 
--- 'For a pair S1, S2 (symbols 2m, 2m+1) antenna 2 sends -conj(S2), conj(S1).'
+-- for a pair S1, S2 (symbols 2m and 2m + 1) antenna 2 sends -conj(S2), conj(S1)
 pub record Pair (indicators : List ℤ) (m : ℕ) : Type 0 where
   pub first : symbol (antenna2 indicators) (2 * m) ≡ opposite (conj (symbol (antenna1 indicators) (2 * m + 1)))
   pub second : symbol (antenna2 indicators) (2 * m + 1) ≡ conj (symbol (antenna1 indicators) (2 * m))
@@ -67,7 +65,7 @@ noisy h1 h2 indicators noise = tab 32 (λ (j : ℕ). getD (clean h1 h2 indicator
 
 -- ---- what the demand allows
 
--- 'any sixteen acquisition indicators, and two whole-number complex gains, in range, not both zero'
+-- any sixteen indicators that are -1, 0 or +1, and two gains in range, not both zero
 pub record Allowed (indicators : List ℤ) (h1 h2 : Complex) : Type 0 where
   pub indicators-taken : mapVerdict indicators 32 ≡ done
   pub h1-re-in : gainIn (h1 .re) ≡ true
@@ -76,7 +74,7 @@ pub record Allowed (indicators : List ℤ) (h1 h2 : Complex) : Type 0 where
   pub h2-im-in : gainIn (h2 .im) ≡ true
   pub not-both-zero : someGain h1 h2 ≡ true
 
--- 'whole-number noise, while noise and received sum are in range'
+-- 32 whole numbers of noise, such that each of them and each received sum is in range
 pub record Noise (indicators : List ℤ) (h1 h2 : Complex) (noise : List ℤ) : Type 0 where
   pub long : length noise ≡ 32
   pub noise-in : Every (partIn noise) 32
@@ -84,7 +82,7 @@ pub record Noise (indicators : List ℤ) (h1 h2 : Complex) (noise : List ℤ) : 
 
 -- ---- the demand
 
--- '32 times the sum of the squared gains times that signature's own indicator'
+-- 32 times the sum of the squared gains times the signature's own indicator
 abbrev pub own : List ℤ → Complex → Complex → ℕ → ℤ
 own indicators h1 h2 s = pos 32 *ℤ (power h1 +ℤ power h2) *ℤ getD indicators s (pos 0)
 

@@ -22,7 +22,7 @@ use Rattle.combiner.specs.Outcome.{combineVerdict, Combine}
 abbrev pub EncoderTakes : Type 0
 EncoderTakes = (indicators : List ℤ) → mapVerdict indicators 32 ≡ done → valuesVerdict (valuesOf indicators) 32 ≡ done
 
--- 'Encoding each signature before summing gives the same values as encoding the sum.' (TS 25.211, 5.3.3.7)
+-- encoding the signatures one by one and then summing gives what encoding the sum gives (docs/RULES.md, 'STTD'; TS 25.211, 5.3.3.7)
 abbrev pub SumOfEncoded : Type 0
 SumOfEncoded =
     (indicators : List ℤ)

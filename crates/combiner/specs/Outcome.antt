@@ -1,4 +1,4 @@
--- Document 01, 'Combiner': what the call answers and leaves in the lent run, for all inputs.
+-- docs/RULES.md, 'Combiner': what the call answers and leaves in the lent run, for all inputs.
 -- Assumes nothing.
 use Prim.Native.Nat.{ℕ}
 use mathlib.Core.Path.{_≡_}
@@ -15,11 +15,11 @@ use Rattle.whole.specs.Equal.{eqZ}
 use Rattle.correlator.specs.declared.Complex.{Complex}
 use Rattle.correlator.specs.Rule.{numbersOf}
 
--- 'Gain parts: -4096 to 4096.'
+-- a gain part: -4096 to 4096
 abbrev pub gainIn : ℤ → Bool
 gainIn = between (negsuc 4095) (pos 4096)
 
--- 'Received parts: -1048576 to 1048576'
+-- a received part: -1048576 to 1048576
 abbrev pub partIn : List ℤ → ℕ → Bool
 partIn = inRange (negsuc 1048575) (pos 1048576)
 

@@ -1,4 +1,4 @@
-// The AICH combiner for two antennas: document 01, 'Combiner'.
+// The AICH combiner for two antennas: docs/RULES.md, 'Combiner'.
 use correlator::Complex;
 use run::Verdict;
 use run::or_else;

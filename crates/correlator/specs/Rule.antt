@@ -1,4 +1,4 @@
--- Document 01, 'Combiner': what is made of the 32 parts that are received, for known gains.
+-- docs/RULES.md, 'Combiner': what is made of the 32 parts that are received, for known gains.
 -- Assumes nothing.
 use Prim.Native.Nat.{ℕ, _+_, _*_, _/_, _%_}
 use mathlib.Core.Bool.{cond}
@@ -11,11 +11,11 @@ use Rattle.aich.specs.Rule.{correlation}
 use Rattle.correlator.specs.declared.Complex.{Complex}
 use Rattle.correlator.specs.Complexes.{cx, _⊞_, _⊟_, _⊠_, conj}
 
--- 'Values 2k and 2k+1 are the real and imaginary part of symbol k.'
+-- values 2k and 2k + 1 are the real and the imaginary part of symbol k
 abbrev pub symbol : List ℤ → ℕ → Complex
 symbol s k = cx (getD s (2 * k) (pos 0)) (getD s (2 * k + 1) (pos 0))
 
--- 'T1 = conj(h1)·r1 + h2·conj(r2), T2 = conj(h1)·r2 - h2·conj(r1)'
+-- T1 = conj(h1)·r1 + h2·conj(r2), T2 = conj(h1)·r2 - h2·conj(r1)
 abbrev pub t1 : Complex → Complex → Complex → Complex → Complex
 t1 h1 h2 r1 r2 = conj h1 ⊠ r1 ⊞ h2 ⊠ conj r2
 
@@ -37,7 +37,7 @@ combinedAt h1 h2 received j =
 unfoldable pub combined : Complex → Complex → List ℤ → List ℤ
 combined h1 h2 received = tab 32 (combinedAt h1 h2 received)
 
--- 'The number for signature s is the sum of the 32 real components of T times b(s,j).'
+-- the number for signature s: the sum over the 32 real components of T, each times b(s, j)
 unfoldable pub numberOf : Complex → Complex → List ℤ → ℕ → ℤ
 numberOf h1 h2 received s = correlation (combined h1 h2 received) s
 

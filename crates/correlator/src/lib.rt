@@ -1,4 +1,4 @@
-// The AICH combiner's numbers: document 01, 'Combiner'. Gains of 16 bits and parts of 32 cannot overflow sums of 64, so nothing is asked of either.
+// The AICH combiner's numbers: docs/RULES.md, 'Combiner'. Gains of 16 bits and parts of 32 cannot overflow sums of 64, so nothing is asked of either.
 ghost use mathlib.Core.Path.{_≡_};
 ghost use Prim.Native.Nat.{_<_};
 ghost use lib.ListN.{length};

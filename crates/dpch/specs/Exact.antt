@@ -7,7 +7,7 @@ use Rattle.run.specs.Fields.{total}
 use Rattle.dpch.specs.Formats.{formatOf, widths}
 use Rattle.dpch.specs.Pilots.{pilotSource, pilotOf}
 
--- 'The five fields fill the slot exactly': of any number, the row of zeros included
+-- the five fields fill the slot exactly: of any number, the row of zeros included
 abbrev pub FieldsFill : Type 0
 FieldsFill = (format : ℕ) → total (widths (formatOf format)) ≡ formatOf format .slot
 

@@ -1,4 +1,4 @@
--- Document 01, 'DPCH slot'; TS 25.211, 5.3.2, table 11 (normal formats): the bits of each field.
+-- docs/RULES.md, 'DPCH slot'; TS 25.211, 5.3.2, table 11 (normal formats): the bits of each field.
 -- Assumes nothing.
 use Prim.Native.Nat.{ℕ}
 use mathlib.Core.Bool.{Bool}
@@ -41,6 +41,6 @@ formatOf n = getD formats n (row 0 0 0 0 0 0)
 abbrev pub widths : Format → List ℕ
 widths f = f .data1 ∷ f .tpc ∷ f .tfci ∷ f .data2 ∷ f .pilot ∷ []
 
--- 'TFCI: all digits 0 or 1; in formats 12 to 16 also all DTX.'
+-- the formats in which the TFCI digits may all be DTX: 12 to 16
 abbrev pub silenceAllowed : ℕ → Bool
 silenceAllowed format = leb 12 format

@@ -1,4 +1,4 @@
--- Document 01, 'DPCH slot'; TS 25.211, 5.3.2, table 12: the pilot bits.
+-- docs/RULES.md, 'DPCH slot'; TS 25.211, 5.3.2, table 12: the pilot bits.
 -- Assumes nothing.
 use Prim.Native.Nat.{ℕ, _/_, _%_}
 use mathlib.Core.Bool.{cond}
@@ -20,7 +20,7 @@ symbols5 = 11 ∷ 11 ∷ 10 ∷ 1 ∷ 11 ∷ 1 ∷ 10 ∷ 10 ∷ 0 ∷ 0 ∷ 11 
 unfoldable pub symbols7 : List ℕ
 symbols7 = 10 ∷ 0 ∷ 0 ∷ 10 ∷ 11 ∷ 1 ∷ 11 ∷ 0 ∷ 11 ∷ 11 ∷ 10 ∷ 10 ∷ 1 ∷ 0 ∷ 1 ∷ []
 
--- the eight symbols of a slot: 'Symbols 0, 2, 4, 6 are 11'
+-- the eight symbols of a slot: 0, 2, 4 and 6 are 11
 unfoldable pub symbolsOf : ℕ → List ℕ
 symbolsOf slot =
     11 ∷ getD symbols1 slot 0 ∷ 11 ∷ getD symbols3 slot 0 ∷ 11 ∷ getD symbols5 slot 0 ∷ 11 ∷ getD symbols7 slot 0 ∷ []

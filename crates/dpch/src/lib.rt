@@ -1,4 +1,4 @@
-// The downlink DPCH: slot formats and pilot bits. Document 01, 'DPCH slot'; TS 25.211, 5.3.2, tables 11 and 12.
+// The downlink DPCH: slot formats and pilot bits. docs/RULES.md, 'DPCH slot'; TS 25.211, 5.3.2, tables 11 and 12.
 ghost use mathlib.Core.Path.{_≡_};
 ghost use Rattle.dpch.specs.Formats.{formatOf};
 ghost use Rattle.dpch.specs.Pilots.{pilotRow};

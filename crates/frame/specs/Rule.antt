@@ -1,4 +1,4 @@
--- Document 01, 'DPCH slot': 'A frame is slots 0 to 14 of one format, with 15 commands.'
+-- docs/RULES.md, 'DPCH slot': a frame, which is slots 0 to 14 of one format, with fifteen commands.
 -- Assumes nothing.
 use Prim.Native.Nat.{ℕ}
 use mathlib.Core.List.{List}

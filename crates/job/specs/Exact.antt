@@ -1,4 +1,4 @@
--- What a program prints by these calls, and what else document 01 says of a job file. Each statement is proved in proofs/Exact.antt under its name in small
+-- What a program prints by these calls (docs/RULES.md, 'Job file and program'). Each statement is proved in proofs/Exact.antt under its name in small
 -- letters.
 -- Assumes nothing.
 use Prim.Native.Nat.{ℕ, suc, _≤_}
@@ -53,7 +53,7 @@ RunOnce = (file : List ℕ) (offset : ℕ) (line : List ℕ) (a b : Ran) (x y : 
 abbrev pub EndOnce : Type 0
 EndOnce = (file : List ℕ) (offset : ℕ) (a b : Verdict) → a ≡ endVerdict file offset → b ≡ endVerdict file offset → a ≡ b
 
--- document 01: 'Bytes 53 4C 54 00 01 01 03 01 01 01 00 01 01 00 print exactly' the lines 'SLT 1 1' and 'DPCH 1 1 1101101100'
+-- the worked example of docs/RULES.md, 'Job file and program': 53 4C 54 00 01 01 03 01 01 01 00 01 01 00 prints the lines SLT 1 1 and DPCH 1 1 1101101100
 pub record Worked : Type 0 where
   pub example :
       printed (83 ∷ 76 ∷ 84 ∷ 0 ∷ 1 ∷ 1 ∷ 3 ∷ 1 ∷ 1 ∷ 1 ∷ 0 ∷ 1 ∷ 1 ∷ 0 ∷ [])

@@ -1,4 +1,4 @@
--- Document 01, 'Job file and program': what can be wrong with a job file itself, and the number and offset of each case.
+-- docs/RULES.md, 'Job file and program': what can be wrong with a job file itself, and the number and offset of each case.
 -- Assumes nothing.
 use Prim.Native.Nat.{ℕ}
 use mathlib.Core.Bool.{Bool, cond}
@@ -8,7 +8,7 @@ use Rattle.run.specs.Verdicts.{refused, done}
 use Rattle.job.specs.declared.fault.Fault.{Fault}
 use Rattle.job.specs.declared.fault.Fault.the-variants.{OverLong, WrongMark, UnknownVersion, UnknownKind, EndsEarly, BytesAfter}
 
--- 'At most 65535 bytes'
+-- the most bytes that a file may have
 abbrev pub limit : ℕ
 limit = 65535
 

@@ -1,4 +1,4 @@
--- Document 01, 'Job file and program': what is printed for a file. The first refusal ends the run; in the header or for length its line is the only one.
+-- docs/RULES.md, 'Job file and program': what is printed for a file. The first refusal ends the run; in the header or for length its line is the only one.
 -- Assumes nothing.
 use Prim.Native.Nat.{ℕ, zero, suc, _+_}
 use mathlib.Core.List.{List, [], _++_}

@@ -1,4 +1,4 @@
--- Document 01, 'Job file and program': the bytes of a job file. The kinds of its records stand in the crate `kinds`, and the lines that are printed in `lines`.
+-- docs/RULES.md, 'Job file and program': the bytes of a job file. The kinds of its records stand in the crate `kinds`, and the lines that are printed in `lines`.
 -- Assumes nothing.
 use Prim.Native.Nat.{ℕ, _+_, _/_, _%_}
 use mathlib.Core.List.{List}
@@ -6,7 +6,7 @@ use lib.ListN.{getD, take, drop}
 use Rattle.kinds.specs.Rule.{sizeOf}
 use Rattle.lines.specs.Rule.{version}
 
--- 'SLT, version as 16 bits, high byte first, 1; a count byte; then the records'
+-- the mark, the version as 16 bits, high byte first, a byte that counts the records, and the records
 abbrev pub versionHigh : ℕ
 versionHigh = version / 256
 

@@ -1,4 +1,4 @@
-// Job files: document 01, 'Job file and program'. A program opens a file, runs its records one after the other, ends it, and tells the first refusal.
+// Job files: docs/RULES.md, 'Job file and program'. A program opens a file, runs its records one after the other, ends it, and tells the first refusal.
 use lines::LINE;
 use lines::Told;
 use run::Verdict;

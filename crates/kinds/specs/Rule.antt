@@ -1,4 +1,4 @@
--- Document 01, 'Job file and program': the kinds of a record, what the byte behind each must be, and how long a record is.
+-- docs/RULES.md, 'Job file and program': the kinds of a record, what the byte behind each must be, and how long a record is.
 -- Assumes nothing.
 use Prim.Native.Nat.{ℕ, _+_}
 use mathlib.Core.Bool.{Bool, cond, _||_}
@@ -11,7 +11,7 @@ use Rattle.slot.specs.Rule.{dataSize}
 use Rattle.pich.specs.Rule.{isNp}
 use Rattle.kinds.specs.declared.Shape.{Shape}
 
--- 'Kind 1 AICH', 'Kind 2 PICH', 'Kind 3 DPCH'
+-- kind 1 is AICH, 2 is PICH, 3 is DPCH
 abbrev pub aichKind : ℕ
 aichKind = 1
 
@@ -33,7 +33,7 @@ byKind kind aich pich dpch = cond (eqb kind aichKind) aich (cond (eqb kind pichK
 unfoldable pub sizeOf : ℕ → ℕ → ℕ
 sizeOf kind second = byKind kind 17 (2 + second) (4 + formatOf second .tfci + dataSize (formatOf second))
 
--- 'format 1 or Np 8': what the byte behind the kind must be. An AICH record has no such byte
+-- a format that there is, else 1; an Np that there is, else 8: what the byte behind the kind must be. An AICH record has no such byte
 unfoldable pub secondVerdict : ℕ → ℕ → Verdict
 secondVerdict kind second = byKind kind done (unless (isNp second) npRefused 0) (unless (leb second 16) formatRefused 0)
 

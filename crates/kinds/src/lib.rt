@@ -1,4 +1,4 @@
-// The kinds of a job file's record: which there are, what the byte behind each must be, and how long a record is. Document 01, 'Job file and program'.
+// The kinds of a job file's record: which there are, what the byte behind each must be, and how long a record is. docs/RULES.md, 'Job file and program'.
 use dpch::format_of;
 use run::Verdict;
 use run::refusal;

@@ -1,4 +1,4 @@
--- What document 01 says of numbers that are printed, and that each promise allows one outcome. Each statement is proved in proofs/Exact.antt under its name in
+-- What a printed number is, and that each promise allows one outcome. Each statement is proved in proofs/Exact.antt under its name in
 -- small letters.
 -- Assumes nothing.
 use Prim.Native.Nat.{ℕ, _+_, _*_, _-_, _≤_, _<_}

@@ -1,4 +1,4 @@
--- Document 01, 'Job file and program': what each call answers and leaves in the lent line, for all inputs. A lent line has room for the longest line there is.
+-- docs/RULES.md, 'Job file and program': what each call answers and leaves in the lent line, for all inputs. A lent line has room for the longest line there is.
 -- Assumes nothing.
 use Prim.Native.Nat.{ℕ}
 use mathlib.Core.Path.{_≡_}
@@ -30,7 +30,7 @@ room place lineLength = unless (leb lineSize lineLength) lengthRefused place
 unfoldable pub isWhole : List ℕ → Bool
 isWhole r = isKind (getD r 0 0) && eqb (secondVerdict (getD r 0 0) (secondOf r) .number) 0 && eqb (length r) (sizeOf (getD r 0 0) (secondOf r))
 
--- 'then the mapper's checks with the mapper's places'
+-- the mapper's checks with the mapper's places
 unfoldable pub mapperVerdict : List ℕ → Verdict
 mapperVerdict r =
     byKind (getD r 0 0)

@@ -1,4 +1,4 @@
--- Document 01, 'Job file and program': the fields of a record in its own bytes, and the lines that are printed.
+-- docs/RULES.md, 'Job file and program': the fields of a record in its own bytes, and the lines that are printed.
 -- Assumes nothing.
 use Prim.Native.Nat.{ℕ, _+_}
 use mathlib.Core.Bool.{cond}
@@ -15,11 +15,11 @@ use Rattle.aich.specs.Rule.{valuesOf}
 use Rattle.kinds.specs.Rule.{byKind}
 use Rattle.lines.specs.Text.{space, newline, number, spaced, row}
 
--- 'version as 16 bits, high byte first, 1'
+-- the version of the file that is printed
 abbrev pub version : ℕ
 version = 1
 
--- '0, 1, 2 for 0, +1, -1, others 11': any other byte stands for itself, which is a number that the AICH refuses
+-- 0, 1 and 2 stand for 0, +1 and -1; any other byte stands for itself, which is a number that the AICH refuses
 unfoldable pub indicatorOf : ℕ → ℤ
 indicatorOf b = cond (eqb b 2) (negsuc 0) (pos b)
 
@@ -61,19 +61,19 @@ dpchWord = 68 ∷ 80 ∷ 67 ∷ 72 ∷ space ∷ []
 abbrev pub refusedWord : List ℕ
 refusedWord = 114 ∷ 101 ∷ 102 ∷ 117 ∷ 115 ∷ 101 ∷ 100 ∷ space ∷ []
 
--- 'First line: mark, version, count.'
+-- the first line: mark, version, count
 unfoldable pub headLine : ℕ → List ℕ
 headLine count = markWord ++ number version space ++ number count newline
 
--- 'AICH prints its 32 values with spaces'
+-- the kind and the 32 values, with spaces
 unfoldable pub aichLine : List ℤ → List ℕ
 aichLine values = aichWord ++ spaced values ++ (newline ∷ [])
 
--- 'PICH prints Np, then digits'
+-- the kind, Np and the digits
 unfoldable pub pichLine : ℕ → List ℕ → List ℕ
 pichLine np frame = pichWord ++ number np space ++ row frame
 
--- 'kind, format, slot, digits'
+-- the kind, format, slot and the digits
 unfoldable pub dpchLine : ℕ → ℕ → List ℕ → List ℕ
 dpchLine format slot digits = dpchWord ++ number format space ++ number slot space ++ row digits
 
@@ -85,6 +85,6 @@ recordLine r =
     (pichLine (secondOf r) (frameOf (secondOf r) (pagingOf r)))
     (dpchLine (secondOf r) (slotNumberOf r) (slotOf (formatOf (secondOf r)) (slotNumberOf r) (tpcOf r) (dataOf r) (tfciOf r)))
 
--- 'A refusal prints refused NUMBER PLACE'
+-- a refusal's number and place
 unfoldable pub refusalLine : Verdict → List ℕ
 refusalLine v = refusedWord ++ number (v .number) space ++ number (v .place) newline

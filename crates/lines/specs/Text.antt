@@ -45,7 +45,7 @@ unfoldable pub spaced : List ℤ → List ℕ
 spaced [] = []
 spaced (v ∷ vs) = (space ∷ signed v) ++ spaced vs
 
--- a channel digit: 0, 1, 'DTX as -'
+-- a channel digit: 0, 1, or - for DTX
 unfoldable pub glyph : ℕ → ℕ
 glyph d = cond (ltb d 2) (nought + d) minus
 

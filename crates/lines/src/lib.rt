@@ -1,4 +1,4 @@
-// The lines that are printed: of a job file's header, of a record of each kind, of a refusal. Document 01, 'Job file and program'.
+// The lines that are printed: of a job file's header, of a record of each kind, of a refusal. docs/RULES.md, 'Job file and program'.
 use run::Verdict;
 use run::or_else;
 use run::refusal;

@@ -52,7 +52,7 @@ aichMap indicators lent = outcome (aichVerdict indicators lent) (values (valuesO
 abbrev pub aichRead : List ℤ → ℕ → Outcome
 aichRead input lent = outcome (aichReadVerdict input lent) (values (indicatorsIn input))
 
--- 'clean': what arrives with no noise when the indicators are sent from both antennas
+-- with no noise: what arrives when the indicators are sent from both antennas
 abbrev pub combineClean : (h1 h2 : Complex) → List ℤ → ℕ → Outcome
 combineClean h1 h2 indicators lent =
     outcome (combineVerdict h1 h2 (clean h1 h2 indicators) lent) (values (numbersOf h1 h2 (clean h1 h2 indicators)))

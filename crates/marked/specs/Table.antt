@@ -1,4 +1,4 @@
--- Document 01, 'Marked examples': P1 to P12, one row each, in its order and its words. The theorem, `MarkedExamples`, is proved in
+-- docs/RULES.md, 'Marked examples': P1 to P12, one row each, in its order. The theorem, `MarkedExamples`, is proved in
 -- proofs/Examples.antt as `marked-examples`. `cases` runs the calls themselves on the same examples.
 -- Assumes nothing.
 use Prim.Native.Nat.{ℕ}
@@ -11,7 +11,7 @@ use Rattle.run.specs.Verdicts.{done, refused}
 use Rattle.correlator.specs.Complexes.{cx}
 use Rattle.marked.specs.Outcome.{Left, nothing, digits, values, q, Outcome, slotMap, sttdDigits, pichQ, aichMap, aichRead, combineClean}
 
--- a row: the number of the example, what the definitions of the promises give, and what document 01 says
+-- a row: the number of the example, what the definitions of the promises give, and what the page says
 pub record Row : Type 0 where
   pub number : ℕ
   pub given : Outcome
@@ -20,7 +20,7 @@ pub record Row : Type 0 where
 abbrev pub row : ℕ → Outcome → Outcome → Row
 row number given said = record { number = number; given = given; said = said }
 
--- document 01 says what is left, of a call that is done; or number and place
+-- the page says what is left, of a call that is done; or number and place
 abbrev pub leaving : Left → Outcome
 leaving new = record { verdict = done; left = new }
 
@@ -63,7 +63,7 @@ table slot tpc tfci d lent =
     ∷ row 12 (combineClean (cx (pos 3) (pos 4)) (cx (pos 0) (pos 0)) (only5 (minus 1)) 16) (leaving (values (only5 (minus 800))))
     ∷ []
 
--- the twelve examples, and what the definitions give is what document 01 says, row by row
+-- the twelve examples, and what the definitions give is what the page says, row by row
 pub record Examples (rows : List Row) : Type 0 where
   pub all-twelve : map (λ (r : Row). r .number) rows ≡ 1 ∷ 2 ∷ 3 ∷ 4 ∷ 5 ∷ 6 ∷ 7 ∷ 8 ∷ 9 ∷ 10 ∷ 11 ∷ 12 ∷ []
   pub as-said : map (λ (r : Row). r .given) rows ≡ map (λ (r : Row). r .said) rows

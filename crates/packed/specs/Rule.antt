@@ -1,4 +1,4 @@
--- Document 01: 'number, place and value come packed in one 64-bit number': bits 0 to 15, 16 to 47 and 48 to 63 (docs/INTERFACE.md).
+-- docs/RULES.md, 'Packed answers': number, place and value in one number of 64 bits, at bits 0 to 15, 16 to 47 and 48 to 63.
 -- Assumes nothing.
 use Prim.Native.Nat.{ℕ, _+_, _*_, _/_, _%_}
 use Rattle.run.specs.declared.Verdict.{Verdict}

@@ -1,4 +1,4 @@
-// Number, place and value in one 64-bit number, as the C calls answer: document 01, 'Job file and program'.
+// Number, place and value in one 64-bit number, as the C calls answer: docs/RULES.md, 'Packed answers'.
 use run::Verdict;
 ghost use mathlib.Core.Path.{_≡_};
 ghost use Rattle.packed.specs.Outcome.{packedCut};

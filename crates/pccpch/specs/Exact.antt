@@ -1,4 +1,4 @@
--- Demand 2 for the P-CCPCH, and what else documents 01 and 002 say of its frames. Each statement is proved in proofs/Exact.antt under its name in small letters.
+-- Demand 2 for the P-CCPCH (docs/RULES.md, 'The demands' and 'P-CCPCH'), and what else TS 25.211, 5.3.3.3.1, says of its frames. Each statement is proved in proofs/Exact.antt under its name in small letters.
 -- Assumes nothing.
 use Prim.Native.Nat.{ℕ, _+_, _*_, _%_, _<_, _≤_}
 use mathlib.Core.Path.{_≡_}
@@ -62,8 +62,7 @@ pub record Block (digits : List ℕ) (k : ℕ) : Type 0 where
 abbrev pub ByBlocks : Type 0
 ByBlocks = (digits : List ℕ) → length digits ≡ 270 → (k : ℕ) → k < 67 → Block digits k
 
--- 'The last two data bits in even numbered slots are STTD encoded together with the first two data bits in the following slot':
--- of slots n and n + 1, digits 18 and 19 of the one and 2 and 3 of the other
+-- a block crosses from each even slot n into slot n + 1: it is digits 18 and 19 of the one and 2 and 3 of the other
 pub record Shared (antenna1 antenna2 : List ℕ) (n : ℕ) : Type 0 where
   pub last-0 : getD antenna2 (20 * n + 18) 0 ≡ barDigit (getD antenna1 (20 * (n + 1) + 2) 0)
   pub last-1 : getD antenna2 (20 * n + 19) 0 ≡ getD antenna1 (20 * (n + 1) + 3) 0
@@ -73,7 +72,7 @@ pub record Shared (antenna1 antenna2 : List ℕ) (n : ℕ) : Type 0 where
 abbrev pub EvenSlots : Type 0
 EvenSlots = (digits : List ℕ) → length digits ≡ 270 → (n : ℕ) → n % 2 ≡ 0 → n < 14 → Shared (frameOf digits) (secondOf digits) n
 
--- .. 'except for slot #14 where the two last data bits are not STTD encoded': they are the same on both antennas
+-- .. but not behind slot 14, whose last two digits are the same on both antennas
 abbrev pub LastTwo : Type 0
 LastTwo = (digits : List ℕ) → length digits ≡ 270 → (k : ℕ) → 298 ≤ k → k < 300 → getD (secondOf digits) k 0 ≡ getD (frameOf digits) k 0
 

@@ -1,4 +1,4 @@
--- Document 01, 'P-CCPCH'; TS 25.211, 5.3.3.3 and 5.3.3.3.1: the broadcast frame on each of two antennas.
+-- docs/RULES.md, 'P-CCPCH'; TS 25.211, 5.3.3.3 and 5.3.3.3.1: the broadcast frame on each of two antennas.
 -- Assumes nothing.
 use Prim.Native.Nat.{ℕ, zero, suc, _+_, _*_, _/_, _%_}
 use mathlib.Core.Bool.{Bool}
@@ -13,7 +13,7 @@ use Rattle.sttd.specs.Rule.{sttd, barDigit}
 abbrev pub place : ℕ → ℕ
 place d = 20 * (d / 18) + 2 + d % 18
 
--- 'a whole frame of 300 digits starts as DTX': so it is with no digit, and then digit after digit stands at its place
+-- the frame is 300 digits of DTX with no digit put in it yet; then digit after digit stands at its place
 unfoldable pub filled : List ℕ → ℕ → List ℕ
 filled digits zero = replicate 300 dtx
 filled digits (suc d) = set (filled digits d) (place d) (getD digits d 0)
@@ -22,7 +22,7 @@ filled digits (suc d) = set (filled digits d) (place d) (getD digits d 0)
 unfoldable pub frameOf : List ℕ → List ℕ
 frameOf digits = filled digits 270
 
--- antenna 2's digits: 'STTD over digits 0 to 267 in fours', while 'digits 268 and 269 are the same on both antennas'
+-- antenna 2's digits: 0 to 267 encoded by STTD in fours through the whole frame, 268 and 269 as on antenna 1
 unfoldable pub coded : List ℕ → List ℕ
 coded digits = sttd barDigit (take 268 digits) ++ drop 268 digits
 
@@ -34,6 +34,6 @@ secondOf digits = frameOf (coded digits)
 unfoldable pub dataIn : List ℕ → List ℕ
 dataIn frame = tab 270 (λ (d : ℕ). getD frame (place d) 0)
 
--- 'The Primary CCPCH is not transmitted during the first 256 chips of each slot': its first two digits
+-- a slot's first two digits, 256 chips, in which the channel is not sent
 abbrev pub silent : ℕ → Bool
 silent k = ltb (k % 20) 2

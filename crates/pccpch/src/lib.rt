@@ -1,4 +1,4 @@
-// The primary common control physical channel on two antennas, mapped: document 01, 'P-CCPCH'; TS 25.211, 5.3.3.3 and 5.3.3.3.1.
+// The primary common control physical channel on two antennas, mapped: docs/RULES.md, 'P-CCPCH'; TS 25.211, 5.3.3.3 and 5.3.3.3.1.
 use run::Verdict;
 use run::found;
 use run::or_else;

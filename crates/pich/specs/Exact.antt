@@ -1,4 +1,4 @@
--- Demand 2 for the PICH, and what else document 01 says of its frame. Each statement is proved in proofs/Exact.antt under its name in small letters.
+-- Demand 2 for the PICH (docs/RULES.md, 'The demands' and 'PICH'), and where each indicator's digits stand. Each statement is proved in proofs/Exact.antt under its name in small letters.
 -- Assumes nothing.
 use Prim.Native.Nat.{ℕ, _+_, _*_, _<_, _≤_}
 use mathlib.Core.Path.{_≡_}
@@ -28,7 +28,7 @@ pub record Exact (np : ℕ) (frame : List ℕ) : Type 0 where
 abbrev pub ReadExact : Type 0
 ReadExact = (np : ℕ) (frame : List ℕ) → isNp np ≡ true → length frame ≡ 300 → Exact np frame
 
--- 'Indicator q fills 288/Np digits from (288/Np)·q. Digits 288 to 299 are DTX.'
+-- indicator q fills its 288/Np digits from (288/Np)·q on, and digits 288 to 299 are DTX
 pub record Filled (np : ℕ) (indicators : List ℕ) : Type 0 where
   pub long : length (frameOf np indicators) ≡ 300
   pub fills : (q i : ℕ) → q < np → i < width np → getD (frameOf np indicators) (width np * q + i) 0 ≡ getD indicators q 0

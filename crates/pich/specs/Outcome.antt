@@ -1,4 +1,4 @@
--- Document 01, 'PICH': what each call answers and leaves in each lent run, for all inputs.
+-- docs/RULES.md, 'PICH': what each call answers and leaves in each lent run, for all inputs.
 -- Assumes nothing.
 use Prim.Native.Nat.{ℕ, _*_, _/_}
 use mathlib.Core.Path.{_≡_}

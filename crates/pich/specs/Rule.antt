@@ -1,4 +1,4 @@
--- Document 01, 'PICH'; TS 25.211, 5.3.3.10: the frame of paging indicators, and which indicator a higher-layer PI has.
+-- docs/RULES.md, 'PICH'; TS 25.211, 5.3.3.10: the frame of paging indicators, and which indicator a higher-layer PI has.
 -- Assumes nothing.
 use Prim.Native.Nat.{ℕ, _+_, _*_, _/_, _%_}
 use mathlib.Core.Bool.{Bool, cond, _||_}
@@ -8,13 +8,17 @@ use lib.Dec.{eqb, ltb}
 use Rattle.run.specs.Digits.{dtx}
 use Rattle.run.specs.Table.{tab}
 
--- 'Np = 18, 36, 72, or 144'
+-- Np: the indicators of a frame are 18, 36, 72 or 144
 unfoldable pub isNp : ℕ → Bool
 isNp np = eqb np 18 || eqb np 36 || eqb np 72 || eqb np 144
 
 -- the digits that one indicator fills (table 24: 16, 8, 4 or 2)
 abbrev pub width : ℕ → ℕ
 width np = 288 / np
+
+-- 'Indicator q fills 288/Np digits from (288/Np)·q'; the tail's first digit for an indicator that the frame has not
+unfoldable pub firstDigit : ℕ → ℕ → ℕ
+firstDigit np q = cond (ltb q np) (width np * q) 288
 
 -- a frame is 300 digits: digit k of the first 288 is that of indicator floor(k / width), and the last 12 are DTX
 unfoldable pub frameOf : ℕ → List ℕ → List ℕ

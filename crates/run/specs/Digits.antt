@@ -1,4 +1,4 @@
--- Document 01, 'Digits': 'A channel digit is a byte: 0, 1, or 2 for DTX.'
+-- docs/RULES.md, 'Digits': a digit is 0, 1, or 2 for DTX.
 -- Assumes nothing.
 use Prim.Native.Nat.{ℕ}
 

@@ -1,4 +1,4 @@
--- Document 01, 'Numbers a call can return': the numbers of the table by name. 0 means done.
+-- docs/RULES.md, 'Numbers a call can return': the numbers of the table by name. 0 means done.
 -- Assumes nothing.
 use Prim.Native.Nat.{ℕ}
 

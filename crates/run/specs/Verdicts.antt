@@ -1,15 +1,18 @@
--- Document 01, 'Numbers a call can return': 'Earlier checks win; within a check the lowest place wins.'
+-- docs/RULES.md, 'Numbers a call can return': the first check that fails is told, and within one check the lowest place.
 -- Assumes nothing.
 use Prim.Native.Nat.{ℕ, zero, suc, _+_, _<_}
-use mathlib.Core.Bool.{Bool, cond}
+use mathlib.Core.Bool.{Bool, true, cond}
+use mathlib.Core.List.{List}
+use lib.ListN.{length, getD}
 use lib.Dec.{eqb}
 use Rattle.run.specs.declared.Verdict.{Verdict}
 use Rattle.run.specs.First.{firstBad, all}
+use Rattle.run.specs.Refusals.{lengthRefused}
 
 abbrev pub refused : ℕ → ℕ → Verdict
 refused number place = record { number = number; place = place }
 
--- '0 means done'
+-- number 0, and place 0
 abbrev pub done : Verdict
 done = refused 0 0
 
@@ -25,7 +28,11 @@ unless ok number place = cond ok done (refused number place)
 unfoldable pub each : ℕ → ℕ → (ℕ → Bool) → ℕ → Verdict
 each base number ok n = unless (all n ok) number (base + firstBad ok n)
 
--- the first of n verdicts that refuses: 'slot by slot'
+-- 3 at the first lent run that has the wrong length: whether each of a call's runs has its own, in the order of the call
+unfoldable pub lengths : List Bool → Verdict
+lengths right = each 0 lengthRefused (λ (k : ℕ). getD right k true) (length right)
+
+-- the first of n verdicts that refuses, as of slots one by one
 unfoldable pub chain : ℕ → (ℕ → Verdict) → Verdict
 chain zero v = done
 chain (suc n) v = orElse (v 0) (chain n (λ (k : ℕ). v (suc k)))

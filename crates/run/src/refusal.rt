@@ -1,4 +1,4 @@
-// The numbers of a refusal by name: document 01, 'Numbers a call can return'. The same list is specs/Refusals.antt.
+// The numbers of a refusal by name: docs/RULES.md, 'Numbers a call can return'. The same list is specs/Refusals.antt.
 
 // 1: format above 16.
 pub const FORMAT: usize = 1;

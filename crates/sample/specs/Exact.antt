@@ -1,4 +1,4 @@
--- What document 01, 'Samples', says in words, as theorems about the definitions of Rule and Outcome. Each statement is proved in proofs/Exact.antt under its
+-- What docs/RULES.md, 'Samples', says in words, as theorems about the definitions of Rule and Outcome. Each statement is proved in proofs/Exact.antt under its
 -- name in small letters.
 -- Assumes nothing.
 use Prim.Native.Nat.{ℕ, suc, _*_, _≤_, _<_}
@@ -23,11 +23,11 @@ use Rattle.sample.specs.Outcome.{takeVerdict, Take}
 
 -- ---- what is accepted
 
--- '-16 to 16'
+-- a value is in range exactly when it is -16 to 16
 abbrev pub ValueBetween : Type 0
 ValueBetween = (v : ℤ) → (isValue v ≡ true) ↔ (natAbs v ≤ 16)
 
--- 'A level lies in 1/1024 to 1024', both ends included: the number m * up e / down e does. NaN, both infinities, both zeros and what is negative do not
+-- a level is in range: 1/1024 to 1024, both ends included, for the number m * up e / down e. NaN, both infinities, both zeros and what is negative do not
 abbrev pub Level : Float → Type 0
 Level nan = ⊥
 Level (inf s) = ⊥
@@ -36,7 +36,7 @@ Level (fin s m e) = (s ≡ false) × (down e ≤ 1024 * (m * up e)) × (m * up e
 abbrev pub LevelBetween : Type 0
 LevelBetween = (x : Float) → (isLevel x ≡ true) ↔ Level x
 
--- 'each level being checked': those of both antennas, whichever is asked for
+-- each level of the setting is checked: those of both antennas, whichever is asked for
 abbrev pub Levels : Setting → Type 0
 Levels Off = Unit
 Levels (Shared level) = Level level
@@ -79,7 +79,7 @@ pub record InF32 (v : ℤ) : Type 0 where
 abbrev pub ValueExact : Type 0
 ValueExact = (v : ℤ) → isValue v ≡ true → InF32 v
 
--- 'value times level, rounded once': one rounding to binary32 of the exact product, of which the level gives m * up e / down e
+-- the product is rounded once: one rounding to binary32 of the exact product, of which the level gives m * up e / down e
 abbrev pub RoundedOnce : Type 0
 RoundedOnce = (v : ℤ) (m : ℕ) (e : ℤ) → times v (fin false m e) ≡ round binary32 (not (nonNeg v)) (natAbs v * (m * up e)) (down e)
 

@@ -1,4 +1,4 @@
--- Document 01, 'Samples': what the call answers, for all inputs. Every refusal is 11, the lowest place first: 0 and 1 the values, 2 and 3 the levels, 4 the
+-- docs/RULES.md, 'Samples': what the call answers, for all inputs. Every refusal is 11, the lowest place first: 0 and 1 the values, 2 and 3 the levels, 4 the
 -- antenna number.
 -- Assumes nothing.
 use Prim.Native.Nat.{ℕ}

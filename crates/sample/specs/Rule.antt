@@ -1,4 +1,4 @@
--- Document 01, 'Samples': which values and levels there are, and what a transmit setting sends of a value. TS 25.211 has no clause on samples: they are for
+-- docs/RULES.md, 'Samples': which values and levels there are, and what a transmit setting sends of a value. TS 25.211 has no clause on samples: they are for
 -- a simulator. A float is a value of IEEE 754 as lib.Ieee has it, with one NaN, and with the sign of a zero kept.
 -- Assumes nothing.
 use Prim.Native.Nat.{ℕ, suc}
@@ -10,7 +10,7 @@ use Rattle.run.specs.Ranges.{between}
 use Rattle.sample.specs.declared.Setting.{Setting}
 use Rattle.sample.specs.declared.Setting.the-variants.{Off, Shared, Each}
 
--- 'two whole values -16 to 16'
+-- a value: whole, -16 to 16
 abbrev pub isValue : ℤ → Bool
 isValue = between (negsuc 15) (pos 16)
 
@@ -21,7 +21,7 @@ lowest = fin false 1 (negsuc 9)
 abbrev pub highest : Float
 highest = fin false 1 (pos 10)
 
--- 'A level lies in 1/1024 to 1024'. A comparison with NaN is false, so NaN is no level
+-- a level: 1/1024 to 1024. A comparison with NaN is false, so NaN is no level
 unfoldable pub isLevel : Float → Bool
 isLevel x = le lowest x && le x highest
 
@@ -33,11 +33,11 @@ abbrev pub exactly : ℤ → Float
 exactly (pos n) = fin false n (pos 0)
 exactly (negsuc n) = fin true (suc n) (pos 0)
 
--- 'value times level, rounded once': `mul` rounds the exact product of its factors to the nearest f32, a tie to the even one
+-- value times level, rounded once: `mul` rounds the exact product of its factors to the nearest f32, a tie to the even one
 unfoldable pub times : ℤ → Float → Float
 times v level = mul binary32 (exactly v) level
 
--- 'off, one level for both antennas, or a level for each antenna', 'off gives +0': the part of a sample that an antenna sends of a value. Number 0 is
+-- the part of a sample that an antenna sends of a value: +0 where the setting is off, else the value at the level that is shared or the antenna's own. Number 0 is
 -- antenna 1, and number 1 is antenna 2
 unfoldable pub part : Setting → ℕ → ℤ → Float
 part Off antenna v = plusZero

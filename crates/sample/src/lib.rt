@@ -1,4 +1,4 @@
-// Samples for a simulator: document 01, 'Samples'.
+// Samples for a simulator: docs/RULES.md, 'Samples'.
 use run::Verdict;
 use run::or_else;
 use run::refusal;

@@ -1,4 +1,4 @@
--- What document 01 says of the signatures. The statement is proved in proofs/Exact.antt under its name in small letters.
+-- What the AICH needs of the signatures (docs/RULES.md, 'AICH'). The statement is proved in proofs/Exact.antt under its name in small letters.
 -- Assumes nothing.
 use Prim.Native.Nat.{ℕ, _+_, _*_, _<_}
 use mathlib.Core.Path.{_≡_}

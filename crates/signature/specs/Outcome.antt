@@ -1,4 +1,4 @@
--- Document 01, 'AICH': what the call answers, for all inputs.
+-- docs/RULES.md, 'AICH': what the call answers, for all inputs.
 -- Assumes nothing.
 use Prim.Native.Nat.{ℕ}
 use mathlib.Core.Bool.{cond, _&&_}

@@ -1,4 +1,4 @@
--- Document 01, 'AICH'; TS 25.211, 5.3.3.7; table 20 of its draft: the signatures.
+-- docs/RULES.md, 'AICH'; TS 25.211, 5.3.3.7; table 20 of its early draft: the signatures.
 -- Assumes nothing.
 use Prim.Native.Nat.{ℕ, _/_, _%_}
 use mathlib.Core.Bool.{Bool, cond}
@@ -7,7 +7,7 @@ use lib.Count.{ones}
 use lib.Dec.{eqb}
 use lib.IntN.{ℤ, pos, negsuc}
 
--- b(s, j) 'is +1 exactly when s and floor(j/2) have an even number of one bits in common'
+-- b(s, j) is +1 where s and floor(j/2) have an even number of one bits in common, else -1
 unfoldable pub isPlus : ℕ → ℕ → Bool
 isPlus s j = eqb (ones (bitAnd s (j / 2)) % 2) 0
 

@@ -1,4 +1,4 @@
-// The signatures of the acquisition indicator channel: document 01, 'AICH'; TS 25.211, 5.3.3.7.
+// The signatures of the acquisition indicator channel: docs/RULES.md, 'AICH'; TS 25.211, 5.3.3.7.
 ghost use mathlib.Core.Path.{_≡_};
 ghost use Prim.Native.Nat.{_<_};
 ghost use Rattle.signature.specs.Rule.{isPlus};

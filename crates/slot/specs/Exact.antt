@@ -1,4 +1,4 @@
--- Demand 2 for a DPCH slot. Each statement is proved in proofs/Exact.antt under its name in small letters.
+-- Demand 2 for a DPCH slot (docs/RULES.md, 'The demands' and 'DPCH slot'). Each statement is proved in proofs/Exact.antt under its name in small letters.
 -- Assumes nothing.
 use Prim.Native.Nat.{ℕ, _+_, _<_, _≤_}
 use mathlib.Core.Path.{_≡_}

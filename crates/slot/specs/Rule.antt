@@ -1,4 +1,4 @@
--- Document 01, 'DPCH slot'; TS 25.211, 5.3.2: one slot of the downlink DPCH.
+-- docs/RULES.md, 'DPCH slot'; TS 25.211, 5.3.2: one slot of the downlink DPCH.
 -- Assumes nothing.
 use Prim.Native.Nat.{ℕ, _+_}
 use mathlib.Core.Bool.{Bool, not, _&&_, _||_, Bool·beq}
@@ -11,11 +11,11 @@ use Rattle.dpch.specs.declared.Format.{Format}
 use Rattle.dpch.specs.Formats.{widths}
 use Rattle.dpch.specs.Pilots.{pilotOf}
 
--- 'Data1 before Data2 in one run'
+-- data is one run, Data1's digits before Data2's
 abbrev pub dataSize : Format → ℕ
 dataSize f = f .data1 + f .data2
 
--- 'Field order: Data1, TPC, TFCI, Data2, pilot'; 'TPC: all digits equal the command'
+-- the fields in their order: Data1, TPC, every digit of which is the command, TFCI, Data2, pilot
 unfoldable pub fieldsOf : Format → ℕ → ℕ → List ℕ → List ℕ → List (List ℕ)
 fieldsOf f slot tpc d tfci =
     take (f .data1) d ∷ replicate (f .tpc) tpc ∷ tfci ∷ drop (f .data1) d ∷ pilotOf (f .pilot) slot ∷ []

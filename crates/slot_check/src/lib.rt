@@ -1,4 +1,4 @@
-// The digits of one slot of the downlink DPCH, checked (rule, promises and theorems are those of the crate `slot`): document 01, 'DPCH slot'; TS 25.211, 5.3.2.
+// The digits of one slot of the downlink DPCH, checked (rule, promises and theorems are those of the crate `slot`): docs/RULES.md, 'DPCH slot'; TS 25.211, 5.3.2.
 use run::Verdict;
 use run::refusal;
 ghost use mathlib.Core.Path.{_≡_};

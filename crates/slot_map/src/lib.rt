@@ -1,5 +1,5 @@
 // One slot of the downlink DPCH, mapped: its fields are checked, and then written by `slot_put` (rule, promises and theorems are those of the crate `slot`):
-// document 01, 'DPCH slot'; TS 25.211, 5.3.2.
+// docs/RULES.md, 'DPCH slot'; TS 25.211, 5.3.2.
 use run::DTX;
 use run::Verdict;
 use run::found;

@@ -1,4 +1,4 @@
-// One slot of the downlink DPCH, written (rule, promises and theorems are those of the crate `slot`): document 01, 'DPCH slot'; TS 25.211, 5.3.2.
+// One slot of the downlink DPCH, written (rule, promises and theorems are those of the crate `slot`): docs/RULES.md, 'DPCH slot'; TS 25.211, 5.3.2.
 use dpch::Format;
 use run::Verdict;
 use write::copy;

@@ -1,4 +1,4 @@
-// Reads a job file on standard input and prints its lines: document 01, 'Job file and program'.
+// Reads a job file on standard input and prints its lines: docs/RULES.md, 'Job file and program'.
 use libc::STDIN_FILENO;
 use libc::STDOUT_FILENO;
 use run::Verdict;

@@ -1,4 +1,4 @@
--- The AICH combiner for C: the answer of `combiner::combine`, packed, and the same lent results.
+-- The AICH combiner for C: the answer of `combiner::combine`, packed, and the same lent results (docs/RULES.md, 'Packed answers').
 -- Assumes nothing.
 use Prim.Native.Nat.{ℕ}
 use mathlib.Core.Path.{_≡_}

@@ -1,4 +1,4 @@
--- The P-CCPCH for C: the answer of the call behind each function, packed, and the same lent runs.
+-- The P-CCPCH for C: the answer of the call behind each function, packed, and the same lent runs (docs/RULES.md, 'Packed answers').
 -- Assumes nothing.
 use Prim.Native.Nat.{ℕ}
 use mathlib.Core.Path.{_≡_}

@@ -1,4 +1,4 @@
--- What each C function on samples answers: the answer of `sample::take` at its setting, with number and place packed and the two parts beside them. An
+-- What each C function on samples answers: the answer of `sample::take` at its setting, with number and place packed (docs/RULES.md, 'Packed answers') and the two parts beside them. An
 -- enum cannot cross to C, so there is a function for each case of the setting.
 -- Assumes nothing.
 use Prim.Native.Nat.{ℕ}

@@ -1,4 +1,4 @@
--- STTD for C: the answer of the call behind each function, packed, and the same lent runs.
+-- STTD for C: the answer of the call behind each function, packed, and the same lent runs (docs/RULES.md, 'Packed answers').
 -- Assumes nothing.
 use Prim.Native.Nat.{ℕ}
 use mathlib.Core.Path.{_≡_}

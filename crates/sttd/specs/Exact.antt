@@ -11,7 +11,7 @@ use Rattle.run.specs.Verdicts.{Narrow}
 use Rattle.sttd.specs.Rule.{sttd, barDigit}
 use Rattle.sttd.specs.Outcome.{digitsVerdict, Digits, valuesVerdict, Values}
 
--- 'b0 b1 b2 b3 on antenna 1 give, on antenna 2: bar b2, b3, b0, bar b1', for the block that begins at entry i
+-- b0 b1 b2 b3 on antenna 1 make bar b2, b3, b0, bar b1 on antenna 2, for the block that begins at entry i
 pub record Block {A : Type 0} (bar : A → A) (s : List A) (d : A) (i : ℕ) : Type 0 where
   pub first : getD (sttd bar s) i d ≡ bar (getD s (i + 2) d)
   pub second : getD (sttd bar s) (i + 1) d ≡ getD s (i + 3) d

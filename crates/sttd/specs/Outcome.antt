@@ -1,4 +1,4 @@
--- Document 01, 'STTD': what each call answers and leaves in each lent run, for all inputs.
+-- docs/RULES.md, 'STTD': what each call answers and leaves in each lent run, for all inputs.
 -- Assumes nothing.
 use Prim.Native.Nat.{ℕ, _*_, _/_, _%_, min}
 use mathlib.Core.Path.{_≡_}
@@ -26,7 +26,7 @@ pub record Digits (input out : List ℕ) (answer : Verdict) (out-after : List �
   pub verdict-is : answer ≡ digitsVerdict input (length out)
   pub out-is : out-after ≡ leaves (digitsVerdict input (length out)) (sttd barDigit input) out
 
--- 'each -16 to 16': an AICH value, and the one at a place of a run
+-- an AICH value is -16 to 16; and the one at a place of a run is
 abbrev pub valueIn : ℤ → Bool
 valueIn = between (negsuc 15) (pos 16)
 

@@ -1,11 +1,11 @@
--- Document 01, 'STTD'; TS 25.211, 5.3.1.1.1, figure 8: what antenna 2 sends, over the meaning of the bar.
+-- docs/RULES.md, 'STTD'; TS 25.211, 5.3.1.1.1, figure 8: what antenna 2 sends, over the meaning of the bar.
 -- Assumes nothing.
 use Prim.Native.Nat.{ℕ}
 use mathlib.Core.Bool.{cond}
 use mathlib.Core.List.{List, [], _∷_}
 use lib.Dec.{eqb}
 
--- 'b0 b1 b2 b3 on antenna 1 give, on antenna 2: bar b2, b3, b0, bar b1', block by block.
+-- b0 b1 b2 b3 on antenna 1 make bar b2, b3, b0, bar b1 on antenna 2, block by block.
 -- The encoder works on whole blocks: one, two or three entries behind the last of them are not encoded and stay as they are.
 unfoldable pub sttd : {A : Type 0} → (A → A) → List A → List A
 sttd bar [] = []
@@ -14,6 +14,6 @@ sttd bar (b0 ∷ b1 ∷ []) = b0 ∷ b1 ∷ []
 sttd bar (b0 ∷ b1 ∷ b2 ∷ []) = b0 ∷ b1 ∷ b2 ∷ []
 sttd bar (b0 ∷ b1 ∷ b2 ∷ b3 ∷ rest) = bar b2 ∷ b3 ∷ b0 ∷ bar b1 ∷ sttd bar rest
 
--- 'The bar of a digit swaps 0 with 1 and leaves 2.' Of an AICH value it is negation, `negℤ`.
+-- the bar of a digit: 0 and 1 change places, DTX stays. Of an AICH value it is negation, `negℤ`.
 unfoldable pub barDigit : ℕ → ℕ
 barDigit d = cond (eqb d 0) 1 (cond (eqb d 1) 0 d)

@@ -1,4 +1,4 @@
-// Space time block coding for two antennas, of AICH values (rule, promises and theorems are those of the crate `sttd`): document 01, 'STTD';
+// Space time block coding for two antennas, of AICH values (rule, promises and theorems are those of the crate `sttd`): docs/RULES.md, 'STTD';
 // TS 25.211, 5.3.1.1.1.
 use run::Verdict;
 use run::or_else;

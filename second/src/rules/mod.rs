@@ -1,7 +1,7 @@
-//! The rules, written from the rules document alone, the plain way.
+//! The rules, written from docs/RULES.md alone, the plain way.
 //!
 //! A rule takes what the call is given: numbers, the runs it reads, and the lengths of the runs it is to write. It
-//! answers the runs it would write, or the refusal. Numbers of refusals stand as digits, as they do in the document.
+//! answers the runs it would write, or the refusal. Numbers of refusals stand as digits, as they do on that page.
 //! `job` is the rule of the program: it takes the bytes of a file and answers the text that is printed.
 
 pub mod aich;

@@ -1,4 +1,4 @@
-//! Job files of one record: the example of the rules document, and refusal 13. What a job prints comes on lines of its
+//! Job files of one record: the example of docs/RULES.md, 'Job file and program', and refusal 13. What a job prints comes on lines of its
 //! own.
 
 use crate::case::{Case, Line};

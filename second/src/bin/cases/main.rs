@@ -1,4 +1,4 @@
-//! The cases of the rules document, run through the rules of this package: one line for each, its name, the call with
+//! The cases of docs/RULES.md, run through the rules of this package: one line for each, its name, the call with
 //! its inputs, and what is answered and left in each lent run. The program `cases` of the library is given the
 //! questions alone, which `--questions` prints, and must print the whole text.
 //!
