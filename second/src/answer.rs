@@ -2,7 +2,7 @@
 
 use std::fmt;
 
-/// A refusal as the rules document speaks of it: a number 1 to 13 and a place.
+/// A refusal as the rules document speaks of it: a number of its table and a place.
 #[derive(Clone, Copy, Debug, PartialEq, Eq)]
 pub struct Refusal {
     pub number: u16,

@@ -17,7 +17,7 @@ use Rattle.job.specs.declared.fault.Fault.the-variants.{OverLong, WrongM
 use Rattle.job.specs.Faults.{limit, check}
 use Rattle.job.specs.Rule.{versionHigh, versionLow, countIn, firstRecord, sizeAt, recordAt}
 
--- 'A missing byte, header or record, is 13 at the file's length.'
+-- a missing byte, header or record, is told at the file's length
 unfoldable pub present : List ℕ → ℕ → Verdict
 present file offset = check (ltb offset (length file)) (EndsEarly (length file))
 
@@ -25,7 +25,7 @@ present file offset = check (ltb offset (length file)) (EndsEarly (length file))
 unfoldable pub byteIs : List ℕ → ℕ → ℕ → Fault → Verdict
 byteIs file offset b fault = orElse (present file offset) (check (eqb (getD file offset 0) b) fault)
 
--- 'over-long file 13 at 65535; header bytes in turn': S, L, T, the version's two bytes, and a count
+-- an over-long file comes first, then the header's bytes in turn: S, L, T, the version's two bytes, and a count
 unfoldable pub headVerdict : List ℕ → Verdict
 headVerdict file =
     orElse (check (leb (length file) limit) OverLong)
@@ -36,7 +36,7 @@ headVerdict file =
     (orElse (byteIs file 4 versionLow (UnknownVersion 4))
     (present file 5))))))
 
--- 'per record kind 13, format 1 or Np 8, short 13' ..
+-- per record its kind, format 1 or Np 8, whether it is short ..
 unfoldable pub kindHead : List ℕ → ℕ → Verdict
 kindHead file offset =
     orElse (check (isKind (getD file offset 0)) (UnknownKind offset))
@@ -47,11 +47,11 @@ kindHead file offset =
 unfoldable pub recordHead : List ℕ → ℕ → Verdict
 recordHead file offset = orElse (present file offset) (kindHead file offset)
 
--- .. 'then the mapper's checks with the mapper's places'
+-- .. then the mapper's checks with the mapper's places
 unfoldable pub recordVerdict : List ℕ → ℕ → Verdict
 recordVerdict file offset = orElse (recordHead file offset) (mapperVerdict (recordAt file offset))
 
--- 'A byte after the last record: 13 there.'
+-- a byte after the last record is told there
 unfoldable pub endVerdict : List ℕ → ℕ → Verdict
 endVerdict file offset = check (leb (length file) offset) (BytesAfter offset)
 
