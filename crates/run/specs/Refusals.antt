@@ -22,7 +22,7 @@ digitRefused = 4
 abbrev pub tpcRefused : ℕ
 tpcRefused = 5
 
--- 6: TFCI rule broken
+-- 6: TFCI digits mixed, some bits and some DTX
 abbrev pub tfciRefused : ℕ
 tfciRefused = 6
 

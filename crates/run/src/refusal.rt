@@ -10,7 +10,7 @@ pub const LENGTH: usize = 3;
 pub const DIGIT: usize = 4;
 // 5: TPC command not 0 or 1; in reading, TPC digits DTX or unlike.
 pub const TPC: usize = 5;
-// 6: TFCI rule broken.
+// 6: TFCI digits mixed, some bits and some DTX.
 pub const TFCI: usize = 6;
 // 7: pilot differs from the table.
 pub const PILOT: usize = 7;

@@ -63,7 +63,7 @@ impl Fault {
     }
 }
 
-/// A format with TFCI that may be silent: every fault of a DPCH record can be made in it.
+/// A format with TFCI: every fault of a DPCH record can be made in it.
 const FORMAT: u8 = 12;
 
 fn good_dpch(random: &mut Random) -> Vec<u8> {

@@ -34,7 +34,7 @@ use std::process::ExitCode;
 type List = (&'static str, fn() -> Vec<Job>);
 
 const LISTS: &[List] = &[
-    ("every format in every slot, both commands, TFCI silent where it may be", valid::formats),
+    ("every format in every slot, both commands, TFCI spoken and silent", valid::formats),
     ("data that is all 0, all 1, all DTX, and each in turn", valid::extreme_data),
     ("every Np, with none, one, some and all indicators", valid::paging),
     ("AICH indicators: one of each sign, all, and some", valid::acquisition),
