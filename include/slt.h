@@ -45,7 +45,14 @@ extern "C" {
 #define SLT_REFUSED_VALUES 10u /* AICH values that no indicators give */
 #define SLT_REFUSED_RANGE 11u  /* a number outside its range */
 #define SLT_REFUSED_GAINS 12u  /* both gains zero */
-#define SLT_REFUSED_JOB 13u    /* bad job file */
+
+/* Of a job file, which the program slotline reads: no call gives them. The place is a byte offset. */
+#define SLT_REFUSED_OVER_LONG 20u   /* more than 65535 bytes */
+#define SLT_REFUSED_MARK 21u        /* wrong mark */
+#define SLT_REFUSED_VERSION 22u     /* version not known */
+#define SLT_REFUSED_KIND 23u        /* kind not known */
+#define SLT_REFUSED_ENDS_EARLY 24u  /* the file ends early, in its header or in a record */
+#define SLT_REFUSED_BYTES_AFTER 25u /* bytes after the last record */
 
 /* PICH (TS 25.211, 5.3.3.10). np is 18, 36, 72 or 144. */
 

@@ -63,7 +63,7 @@ const LISTS: &[List] = &[
 ];
 
 /// Every number that a job can be refused with, and 0 for done.
-const NUMBERS: [u16; 9] = [0, 1, 2, 4, 5, 6, 8, 11, 13];
+const NUMBERS: [u16; 14] = [0, 1, 2, 4, 5, 6, 8, 11, 20, 21, 22, 23, 24, 25];
 
 const USAGE: &str = "usage: jobs SLOTLINE EXAMPLES | --write-examples EXAMPLES | --fuzz SEED SLOTLINE | --print";
 
