@@ -1,9 +1,9 @@
--- The sums of pairs of components, found one component at a time; and the correlations, found from them by four foldings.
+-- The sums of pairs of components, found one component at a time; and the correlations, which are what folding leaves of them.
 -- Assumes nothing.
 use mathlib.Core.Path.{_≡_, refl, sym, ap, _∙_}
 use mathlib.Core.Bool.{Bool, true, false, cond}
 use mathlib.Core.List.{List}
-use Prim.Native.Nat.{ℕ, _+_, _*_, _/_, _%_, _≤_, _<_}
+use Prim.Native.Nat.{ℕ, _+_, _*_, _/_, _%_, _^_, _≤_, _<_}
 use native.Mathlib.Omega.{arith}
 use borrow.Author.Tests.{eqb-true, eqb-false, ltb-true, ltb-false, lt-ltb, le-ltb}
 use lib.Dec.{eqb, ltb, lit<}
@@ -12,18 +12,19 @@ use lib.Seq.{getD-set-same, getD-set-other}
 use lib.IntN.{ℤ, pos, _+ℤ_, _*ℤ_, +ℤ-idl, +ℤ-idr}
 use mir.Syntax.{w64}
 use mir.Val.{SFits, toZ, ofZ}
-use Rattle.run.proofs.Table.{tab-length, tab-at, tab-is}
+use Rattle.run.proofs.Table.{tab-length, tab-at, tab-is, tab-same}
 use Rattle.whole.specs.Bound.{Bounded}
 use Rattle.whole.proofs.Bound.{b-sum}
 use Rattle.whole.proofs.Bits.{Reads, r-in, fits-sum, r-sum}
 use Rattle.whole.proofs.Laws.{distrib-r}
 use Rattle.whole.proofs.Sum.{sum-same, sum-pairs}
-use Rattle.aich.specs.Method.{Sixteen, halfOf}
 use Rattle.signature.specs.Rule.{sign}
-use Rattle.aich.specs.Rule.{valueAt, correlation}
-use Rattle.aich.proofs.Laws.{entry, half-at, half-length}
-use Rattle.signature.proofs.Signs.{sign-second, sign-swap}
-use Rattle.correlator.specs.Method.{Parts, pairSums, correlations}
+use Rattle.signature.specs.Folding.{paritySum, folds}
+use Rattle.signature.proofs.Signs.{sign-second}
+use Rattle.signature.proofs.Folding.{entry, folds-are-sums}
+use Rattle.aich.specs.Rule.{correlation}
+use Rattle.correlator.specs.Method.{Parts, pairSums, correlations, depth, Room}
+use Rattle.correlator.proofs.Folding.{depth-is}
 
 -- what pair k has of the first j components
 unfoldable pub soFar : List ℤ → ℕ → ℕ → ℤ
@@ -140,26 +141,41 @@ module _ (t sums : List ℤ) (j : ℕ) (p : Parts 281474976710656 t) (f : Held t
 
 -- ---- the correlations
 
-pub pair-at : (t : List ℤ) (k : ℕ) → k < 16 → entry (pairSums t) k ≡ entry t (2 * k) +ℤ entry t (2 * k + 1)
+pairs-length : (t : List ℤ) → length (pairSums t) ≡ 16
+unfolding pairSums
+pairs-length t = tab-length 16 _
+
+pair-at : (t : List ℤ) (k : ℕ) → k < 16 → entry (pairSums t) k ≡ entry t (2 * k) +ℤ entry t (2 * k + 1)
 unfolding pairSums
 pair-at t k h = tab-at 16 (λ (i : ℕ). entry t (2 * i) +ℤ entry t (2 * i + 1)) k (pos 0) h
 
-pub pairs-small : (t : List ℤ) (B : ℕ) → Parts B t → Sixteen (B + B) (pairSums t)
-unfolding pairSums
-pairs-small t B p =
+four-deep : (t : List ℤ) → depth (pairSums t) ≡ 4
+four-deep t = depth-is 4 (pairSums t) (pairs-length t)
+
+-- sixteen sums of pairs, each within 2^49: folded they are within 2^53
+pub pairs-room : (t : List ℤ) → Parts 281474976710656 t → Room (pairSums t)
+pairs-room t p =
     record {
-      long = tab-length 16 _;
-      small = λ k h. rw (tab-at 16 (λ (i : ℕ). entry t (2 * i) +ℤ entry t (2 * i + 1)) k (pos 0) h) (b-sum (p .small (2 * k) (omega arith)) (p .small (2 * k + 1) (omega arith)));
+      bound = 281474976710656 + 281474976710656;
+      long = pairs-length t ∙ ap (λ (n : ℕ). 2 ^ n) (sym (four-deep t));
+      small = λ k l.
+          let h : k < 16 = rw (pairs-length t) at l in
+          rw (pair-at t k h) (b-sum (p .small (2 * k) (omega arith)) (p .small (2 * k + 1) (omega arith)));
+      fits = rw (pairs-length t) (lit< tt);
     }
 
-correlate-at : (t : List ℤ) (s : ℕ) → s < 16 → entry (halfOf (pairSums t)) s ≡ correlation t s
-unfolding correlation valueAt
-correlate-at t s h =
-    half-at (pairSums t) s h
-    ∙ sym (sum-pairs 16 (λ j. entry t j *ℤ sign s j)
-    ∙ sum-same 16 _ (λ k. entry (pairSums t) k *ℤ sign k (2 * s))
-    (λ k l. rw (sign-second s k, sign-swap s k, pair-at t k l) (sym (distrib-r (entry t (2 * k)) (entry t (2 * k + 1)) (sign k (2 * s))))))
+-- the sums by parity of the sums of pairs: b(s, 2k) = b(s, 2k + 1)
+correlate-at : (t : List ℤ) (s : ℕ) → paritySum 4 (pairSums t) s ≡ correlation t s
+unfolding correlation paritySum
+correlate-at t s =
+    sym (sum-pairs 16 (λ j. entry t j *ℤ sign s j)
+    ∙ sum-same 16 _ (λ k. entry (pairSums t) k *ℤ sign s (2 * k))
+    (λ k l. rw (sign-second s k, pair-at t k l) (sym (distrib-r (entry t (2 * k)) (entry t (2 * k + 1)) (sign s (2 * k))))))
 
-pub correlated : (t : List ℤ) → halfOf (pairSums t) ≡ correlations t
+-- the sixteen signatures: the law of folded runs at n = 4
+pub correlated : (t : List ℤ) → folds (depth (pairSums t)) (pairSums t) ≡ correlations t
 unfolding correlations
-correlated t = tab-is (pos 0) (halfOf (pairSums t)) 16 (correlation t) (half-length (pairSums t)) (correlate-at t)
+correlated t =
+    ap (λ (n : ℕ). folds n (pairSums t)) (four-deep t)
+    ∙ folds-are-sums 4 (pairSums t) (pairs-length t)
+    ∙ tab-same 16 (paritySum 4 (pairSums t)) (correlation t) (λ s h. correlate-at t s)

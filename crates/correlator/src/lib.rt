@@ -1,11 +1,12 @@
 // The AICH combiner's numbers: docs/RULES.md, 'Combiner'. Gains of 16 bits and parts of 32 cannot overflow sums of 64, so nothing is asked of either.
 ghost use mathlib.Core.Path.{_≡_};
+ghost use mathlib.Core.List.{_++_};
 ghost use Prim.Native.Nat.{_<_};
 ghost use lib.ListN.{length};
-ghost use Rattle.aich.specs.Method.{Sixteen, folded};
+ghost use Rattle.signature.specs.Folding.{sums, differences, folds};
 ghost use Rattle.correlator.specs.Complexes.{cx, _⊞_, _⊟_, _⊠_, conj};
 ghost use Rattle.correlator.specs.Rule.{symbol, t1, t2, combined, numbersOf};
-ghost use Rattle.correlator.specs.Method.{Small, Parts, pairSums, correlations};
+ghost use Rattle.correlator.specs.Method.{Small, Parts, pairSums, correlations, depth, Room, Halves};
 
 // A complex whole number.
 pub struct Complex {
@@ -124,33 +125,42 @@ fn pair_sums(t: &[i64]) -> [i64; 16]
     sums
 }
 
-// Entries i and i + 8 become their sum and their difference, side by side.
-fn fold(x: &[i64]) -> [i64; 16]
-    requires { ⌜ Sixteen 4503599627370496 (now x) ⌝ }
-    ensures { λ r. ⌜ r ≡ folded (now (x .entry)) ⌝ }
+// Entries k and h + k become their sum and their difference.
+fn level(s: &mut [i64], h: usize)
+    requires { ⌜ Halves h (now s) ⌝ }
+    ensures { λ _. ⌜ now (s .exit) ≡ sums h (now (s .entry)) ++ differences h (now (s .entry)) ⌝ }
 {
-    let mut y = [0i64; 16];
-    let mut i = 0;
-    while i < 8 {
-        let a = x[i];
-        let b = x[i + 8];
-        y[2 * i] = a + b;
-        y[2 * i + 1] = a - b;
-        i += 1;
+    let mut k = 0;
+    while k < h {
+        let x = s[k];
+        let y = s[h + k];
+        s[k] = x + y;
+        s[h + k] = x - y;
+        k += 1;
     }
-    y
 }
 
-// The correlation with each signature: four foldings are the sums over all of them.
+// Halves the run and folds each half again, down to runs of one number. The depth is the logarithm of the length.
+fn fold(s: &mut [i64])
+    requires { ⌜ Room (now s) ⌝ }
+    ensures { λ _. ⌜ now (s .exit) ≡ folds (depth (now (s .entry))) (now (s .entry)) ⌝ }
+{
+    if 1 < s.len() {
+        let h = s.len() / 2;
+        level(s, h);
+        fold(&mut s[..h]);
+        fold(&mut s[h..]);
+    }
+}
+
+// The correlation with each signature: neighbours are added once, and what is left is folded.
 fn correlate(t: &[i64]) -> [i64; 16]
     requires { ⌜ Parts 281474976710656 (now t) ⌝ }
     ensures { λ r. ⌜ r ≡ correlations (now (t .entry)) ⌝ }
 {
-    let sums = pair_sums(t);
-    let once = fold(&sums);
-    let twice = fold(&once);
-    let thrice = fold(&twice);
-    fold(&thrice)
+    let mut sums = pair_sums(t);
+    fold(&mut sums);
+    sums
 }
 
 // A gain of two parts of 16 bits.

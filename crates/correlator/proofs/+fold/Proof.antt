@@ -1,0 +1,164 @@
+-- `correlator::fold` meets its contract: what a level leaves is two runs, each one level less deep.
+-- The measure is the logarithm of the length and falls at each call, so calls are never nested deeper than that.
+-- Assumes nothing.
+use Prim.Native.Nat.{ℕ, _<_}
+use mathlib.Core.Path.{_∙_}
+use native.Mathlib.Omega.{arith}
+use lib.ListN.{length-take}
+use borrow.Author.Needs.{needs}
+use Rattle.correlator.proofs.Folding.{can-level, level-length, first-part, sums-less, sums-room, second-part, differences-less, differences-room, both-parts, one-stays}
+use Rattle.correlator.specs.Method.{depth}
+use borrow.Fn.Kinds.{In}
+use borrow.Fn.PlainCycle.{Measures, is, falls, and}
+use Rattle.correlator.proofs.fold.Reads as fold
+use Rattle.correlator.proofs.fold.Kinds as fold-kinds
+use Rattle.correlator.proofs.+fold.Lts-fold as fold-lts
+use Rattle.correlator.proofs.level.Reads as level-reads
+use Rattle.correlator.proofs.+fold.{statement}
+use Rattle.correlator.proofs.+fold.Tie.{close}
+
+abbrev μ-fold : Measures 1 fold-kinds.ps ℕ
+μ-fold κs a = depth (a .0 .now)
+
+abbrev fold-at : ℕ → In 1 fold-kinds.ps
+fold-at t = and 1 fold-kinds.ps (is 1 fold-kinds.ps μ-fold t) fold.Pre
+
+abbrev fold-below : ℕ → In 1 fold-kinds.ps
+fold-below t = and 1 fold-kinds.ps (falls 1 fold-kinds.ps _<_ μ-fold t) fold.Pre
+
+fold-level-requires : (t : ℕ) → fold-lts.Need-level-requires (
+  level-reads.Asked,
+  level-reads.Learnt,
+  fold-below t,
+  fold.Post,
+) (fold-at t) fold.Post
+fold-level-requires t c κs = can-level _ (c .before .before .pre .1) (c .before .if1 .taken)
+
+fold-slice-relend-prefix-fold : (t : ℕ) → fold-lts.Need-slice-relend-prefix-fold (
+  level-reads.Asked,
+  level-reads.Learnt,
+  fold-below t,
+  fold.Post,
+) (fold-at t) fold.Post
+fold-slice-relend-prefix-fold t c =
+    let branch = c .before .before .before in
+    omega (arith, level-length _ (branch .before .pre .1) (branch .if1 .taken) _ (c .before .level .ensures))
+
+fold-slice-aggregate-fold : (t : ℕ) → fold-lts.Need-slice-aggregate-fold (
+  level-reads.Asked,
+  level-reads.Learnt,
+  fold-below t,
+  fold.Post,
+) (fold-at t) fold.Post
+fold-slice-aggregate-fold t c =
+    let branch = c .before .before .before .before in
+    simp length-take (omega (arith, level-length _ (branch .before .pre .1) (branch .if1 .taken) _ (c .before .before .level .ensures)))
+
+fold-fold-requires : (t : ℕ) → fold-lts.Need-fold-requires (
+  level-reads.Asked,
+  level-reads.Learnt,
+  fold-below t,
+  fold.Post,
+) (fold-at t) fold.Post
+fold-fold-requires t c κs =
+    let branch = c .before .before .before .before in
+    let part = first-part _ (branch .before .pre .1) (branch .if1 .taken) _ (c .before .before .level .ensures) in
+    (rw (part, ← branch .before .pre .0) (sums-less _ (branch .before .pre .1) (branch .if1 .taken)), rw part (sums-room _ (branch .before .pre .1) (branch .if1 .taken)))
+
+fold-mul-fold : (t : ℕ) → fold-lts.Need-mul-fold (
+  level-reads.Asked,
+  level-reads.Learnt,
+  fold-below t,
+  fold.Post,
+) (fold-at t) fold.Post
+fold-mul-fold t c = search needs
+
+fold-sub-fold : (t : ℕ) → fold-lts.Need-sub-fold (
+  level-reads.Asked,
+  level-reads.Learnt,
+  fold-below t,
+  fold.Post,
+) (fold-at t) fold.Post
+fold-sub-fold t c = search needs
+
+fold-part-fold-start : (t : ℕ) → fold-lts.Need-part-fold-start (
+  level-reads.Asked,
+  level-reads.Learnt,
+  fold-below t,
+  fold.Post,
+) (fold-at t) fold.Post
+fold-part-fold-start t c = search needs
+
+fold-part-fold-end : (t : ℕ) → fold-lts.Need-part-fold-end (
+  level-reads.Asked,
+  level-reads.Learnt,
+  fold-below t,
+  fold.Post,
+) (fold-at t) fold.Post
+fold-part-fold-end t c = search needs
+
+fold-fold-requires-2 : (t : ℕ) → fold-lts.Need-fold-requires-2 (
+  level-reads.Asked,
+  level-reads.Learnt,
+  fold-below t,
+  fold.Post,
+) (fold-at t) fold.Post
+fold-fold-requires-2 t c κs =
+    let levelled = c .before .before .before .before .before in
+    let branch = levelled .before .before in
+    let part =
+    second-part _ (branch .before .pre .1) (branch .if1 .taken) _ (levelled .level .ensures) _ (c .before .before .fold .ensures)
+    in
+    (rw (part, ← branch .before .pre .0) (differences-less _ (branch .before .pre .1) (branch .if1 .taken)), rw part (differences-room _ (branch .before .pre .1) (branch .if1 .taken)))
+
+fold-same-length : (t : ℕ) → fold-lts.Need-same-length (
+  level-reads.Asked,
+  level-reads.Learnt,
+  fold-below t,
+  fold.Post,
+) (fold-at t) fold.Post
+fold-same-length t c =
+    let levelled = c .before .before .before .before .before .before .before in
+    let branch = levelled .before .before in
+    c .s3 .given .1 ∙ c .before .before .before .s2 .given .1 ∙ level-length _ (branch .before .pre .1) (branch .if1 .taken) _ (levelled .level .ensures)
+
+fold-returns : (t : ℕ) → fold-lts.Need-returns (
+  level-reads.Asked,
+  level-reads.Learnt,
+  fold-below t,
+  fold.Post,
+) (fold-at t) fold.Post
+fold-returns t c =
+    let levelled = c .before .before .before .before .before .before .before in
+    let branch = levelled .before .before in
+    both-parts _ (branch .before .pre .1) (branch .if1 .taken) _ (levelled .level .ensures) _ (c .before .before .before .before .fold .ensures) _ (c .before .fold2 .ensures)
+
+fold-returns-2 : (t : ℕ) → fold-lts.Need-returns-2 (
+  level-reads.Asked,
+  level-reads.Learnt,
+  fold-below t,
+  fold.Post,
+) (fold-at t) fold.Post
+fold-returns-2 t c = one-stays _ (c .before .pre .1) (c .if1 .left)
+
+pub +fold-spec : {M : Type 1} → statement M
++fold-spec = close μ-fold λ t. fold-lts.spec (
+  level-reads.Asked,
+  level-reads.Learnt,
+  fold-below t,
+  fold.Post,
+)
+    (fold-at t)
+    fold.Post
+    (fold-level-requires t)
+    (fold-slice-relend-prefix-fold t)
+    (fold-slice-aggregate-fold t)
+    (fold-fold-requires t)
+    (fold-mul-fold t)
+    (fold-sub-fold t)
+    (fold-part-fold-start t)
+    (fold-part-fold-end t)
+    (fold-fold-requires-2 t)
+    (fold-same-length t)
+    (fold-returns t)
+    (fold-returns-2 t)
