@@ -126,7 +126,7 @@ one-stays x p h =
 
 -- ---- what a level leaves
 
-module _ (x : List ℤ) (p : Room x) (big : 1 < length x) where
+module _ (x : List ℤ) (p : Room x) (big : 0 < length x / 2) where
   abbrev half : ℕ
   half = length x / 2
 
@@ -134,7 +134,7 @@ module _ (x : List ℤ) (p : Room x) (big : 1 < length x) where
   below = depth x - 1
 
   deep : depth x ≡ suc below
-  deep = deeper (depth x) (rw (p .long) at big)
+  deep = deeper (depth x) (omega (arith, p .long))
 
   length-is : length x ≡ 2 ^ below + 2 ^ below
   length-is = p .long ∙ ap (λ (n : ℕ). 2 ^ n) deep ∙ two-pow-succ below
@@ -170,12 +170,12 @@ module _ (x : List ℤ) (p : Room x) (big : 1 < length x) where
         fits = rw (e, product-stays) (p .fits);
       }
 
-  pub sums-room : Room (sums half x)
+  sums-room : Room (sums half x)
   sums-room =
       half-room (sums half x) (sums-length half x)
       (λ k l. rw (sums-at half x k l) (b-sum (p .small k (omega (arith, twice))) (p .small (half + k) (omega (arith, twice)))))
 
-  pub differences-room : Room (differences half x)
+  differences-room : Room (differences half x)
   differences-room =
       half-room (differences half x) (differences-length half x)
       (λ k l. rw (differences-at half x k l) (b-diff (p .small k (omega (arith, twice))) (p .small (half + k) (omega (arith, twice)))))
@@ -186,64 +186,93 @@ module _ (x : List ℤ) (p : Room x) (big : 1 < length x) where
   differences-depth : depth (differences half x) ≡ below
   differences-depth = depth-is below (differences half x) (differences-length half x ∙ half-is)
 
-  pub sums-less : depth (sums half x) < depth x
+  sums-less : depth (sums half x) < depth x
   sums-less = omega (arith, sums-depth, deep)
 
-  pub differences-less : depth (differences half x) < depth x
+  differences-less : depth (differences half x) < depth x
   differences-less = omega (arith, differences-depth, deep)
 
   -- both folded are the run folded
-  pub folds-both : folds (depth (sums half x)) (sums half x) ++ folds (depth (differences half x)) (differences half x) ≡ folds (depth x) x
+  folds-both : folds (depth (sums half x)) (sums half x) ++ folds (depth (differences half x)) (differences half x) ≡ folds (depth x) x
   unfolding folds
   folds-both =
       ap₂ (λ (m n : ℕ). folds m (sums half x) ++ folds n (differences half x)) sums-depth differences-depth
       ∙ ap (λ (h : ℕ). folds below (sums h x) ++ folds below (differences h x)) half-is
       ∙ ap (λ (n : ℕ). folds n x) (sym deep)
 
-  -- ---- the two parts, lent one after the other: l is the run after the level, f what comes back of the first part, g of the second
-  module _ (l : List ℤ) (e : l ≡ sums half x ++ differences half x) where
-    pub level-length : length l ≡ length x
-    level-length =
-        ap length e ∙ length-append (sums half x) (differences half x)
-        ∙ ap₂ (λ (m n : ℕ). m + n) (sums-length half x) (differences-length half x) ∙ twice
+-- ---- the run after a level: l is what is left of x
+pub record Levelled (x l : List ℤ) : Type 0 where
+  pub room : Room x
+  pub big : 0 < length x / 2
+  pub is : l ≡ sums (length x / 2) x ++ differences (length x / 2) x
 
-    pub first-part : take half l ≡ sums half x
-    first-part = rw e (take-at (sums half x) (differences half x) half (sums-length half x))
+module _ {x l : List ℤ} (c : Levelled x l) where
+  abbrev h : ℕ
+  h = length x / 2
 
-    behind-first : drop half l ≡ differences half x
-    behind-first = rw e (drop-at (sums half x) (differences half x) half (sums-length half x))
+  abbrev a : List ℤ
+  a = sums h x
 
-    module _ (f : List ℤ) (is : f ≡ folds (depth (take half l)) (take half l)) where
-      first-is : f ≡ folds (depth (sums half x)) (sums half x)
-      first-is = is ∙ ap (λ (y : List ℤ). folds (depth y) y) first-part
+  abbrev b : List ℤ
+  b = differences h x
 
-      first-length : length f ≡ half
-      first-length =
-          ap length first-is ∙ folds-length (depth (sums half x)) (sums half x) (sums-room .long) ∙ sym (sums-room .long) ∙ sums-length half x
+  pub levelled-length : length l ≡ length x
+  levelled-length =
+      ap length (c .is) ∙ length-append a b ∙ ap₂ (λ (m n : ℕ). m + n) (sums-length h x) (differences-length h x) ∙ twice x (c .room) (c .big)
 
-      abbrev now : List ℤ
-      now = f ++ drop half l
+  -- halves of one number each are folded already
+  pub last-level : h ≤ 1 → l ≡ folds (depth x) x
+  last-level short =
+      c .is
+      ∙ ap₂ (λ (y z : List ℤ). y ++ z)
+      (one-stays a (sums-room x (c .room) (c .big)) (rw (sums-length h x) short))
+      (one-stays b (differences-room x (c .room) (c .big)) (rw (differences-length h x) short))
+      ∙ folds-both x (c .room) (c .big)
 
-      -- as long as the rest of the run
-      count : length now - half ≡ length (differences half x)
-      count =
-          let a = length-append f (drop half l) in
-          let b = ap length behind-first in
-          omega (arith, first-length)
+  -- the first half is lent, and f comes back
+  pub first-part : take h l ≡ a
+  first-part = rw (c .is) (take-at a b h (sums-length h x))
 
-      behind-now : drop half now ≡ differences half x
-      behind-now = drop-at f (drop half l) half first-length ∙ behind-first
+  behind-first : drop h l ≡ b
+  behind-first = rw (c .is) (drop-at a b h (sums-length h x))
 
-      pub second-part : midOf half (length now - half) now ≡ differences half x
-      second-part = ap₂ (λ (n : ℕ) (y : List ℤ). take n y) count behind-now ∙ take-length (differences half x)
+  pub first-can : Room (take h l)
+  first-can = rw first-part (sums-room x (c .room) (c .big))
 
-      module _ (g : List ℤ) (are : g ≡ folds (depth (midOf half (length now - half) now)) (midOf half (length now - half) now)) where
-        second-is : g ≡ folds (depth (differences half x)) (differences half x)
-        second-is = are ∙ ap (λ (y : List ℤ). folds (depth y) y) second-part
+  pub first-less : depth (take h l) < depth x
+  first-less = rw first-part (sums-less x (c .room) (c .big))
 
-        pub both-parts : putMid half (length now - half) now g ≡ folds (depth x) x
-        both-parts =
-            ap₂ (λ (y z : List ℤ). y ++ (g ++ z)) (take-at f (drop half l) half first-length)
-            (ap₂ (λ (n : ℕ) (y : List ℤ). drop n y) count behind-now ∙ drop-length (differences half x))
-            ∙ ap₂ (λ (y z : List ℤ). y ++ z) first-is (append-nil g ∙ second-is)
-            ∙ folds-both
+  module _ (f : List ℤ) (is : f ≡ folds (depth (take h l)) (take h l)) where
+    first-is : f ≡ folds (depth a) a
+    first-is = is ∙ ap (λ (y : List ℤ). folds (depth y) y) first-part
+
+    first-length : length f ≡ h
+    first-length =
+        let long = sums-room x (c .room) (c .big) .long in
+        ap length first-is ∙ folds-length (depth a) a long ∙ sym long ∙ sums-length h x
+
+    abbrev m : List ℤ
+    m = f ++ drop h l
+
+    count : h + h - h ≡ length b
+    count = omega (arith, differences-length h x)
+
+    behind-now : drop h m ≡ b
+    behind-now = drop-at f (drop h l) h first-length ∙ behind-first
+
+    -- the second half is lent, and g comes back
+    second-part : midOf h (h + h - h) m ≡ b
+    second-part = ap₂ (λ (n : ℕ) (y : List ℤ). take n y) count behind-now ∙ take-length b
+
+    pub second-can : Room (midOf h (h + h - h) m)
+    second-can = rw second-part (differences-room x (c .room) (c .big))
+
+    pub second-less : depth (midOf h (h + h - h) m) < depth x
+    second-less = rw second-part (differences-less x (c .room) (c .big))
+
+    pub both-parts : (g : List ℤ) → g ≡ folds (depth (midOf h (h + h - h) m)) (midOf h (h + h - h) m) → putMid h (h + h - h) m g ≡ folds (depth x) x
+    both-parts g are =
+        ap₂ (λ (y z : List ℤ). y ++ (g ++ z)) (take-at f (drop h l) h first-length)
+        (ap₂ (λ (n : ℕ) (y : List ℤ). drop n y) count behind-now ∙ drop-length b)
+        ∙ ap₂ (λ (y z : List ℤ). y ++ z) first-is (append-nil g ∙ are ∙ ap (λ (y : List ℤ). folds (depth y) y) second-part)
+        ∙ folds-both x (c .room) (c .big)

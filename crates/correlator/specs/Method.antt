@@ -9,7 +9,6 @@ use lib.ListN.{length, getD}
 use lib.IntN.{ℤ, pos, _+ℤ_}
 use Rattle.run.specs.Table.{tab}
 use Rattle.whole.specs.Bound.{Bounded}
-use Rattle.aich.specs.Rule.{correlation}
 use Rattle.correlator.specs.declared.Complex.{Complex}
 
 -- both parts lie in -B to B
@@ -48,7 +47,3 @@ pub record Halves (h : ℕ) (x : List ℤ) : Type 0 where
 -- two components at a time: b(s, 2k) = b(s, 2k + 1)
 unfoldable pub pairSums : List ℤ → List ℤ
 pairSums t = tab 16 (λ (k : ℕ). getD t (2 * k) (pos 0) +ℤ getD t (2 * k + 1) (pos 0))
-
--- the correlation with each signature
-unfoldable pub correlations : List ℤ → List ℤ
-correlations t = tab 16 (correlation t)

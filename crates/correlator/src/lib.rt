@@ -3,10 +3,11 @@ ghost use mathlib.Core.Path.{_≡_};
 ghost use mathlib.Core.List.{_++_};
 ghost use Prim.Native.Nat.{_<_};
 ghost use lib.ListN.{length};
+ghost use lib.IntN.{_+ℤ_};
 ghost use Rattle.signature.specs.Folding.{sums, differences, folds};
 ghost use Rattle.correlator.specs.Complexes.{cx, _⊞_, _⊟_, _⊠_, conj};
 ghost use Rattle.correlator.specs.Rule.{symbol, t1, t2, combined, numbersOf};
-ghost use Rattle.correlator.specs.Method.{Small, Parts, pairSums, correlations, depth, Room, Halves};
+ghost use Rattle.correlator.specs.Method.{Small, Parts, pairSums, depth, Room, Halves};
 
 // A complex whole number.
 pub struct Complex {
@@ -86,41 +87,29 @@ fn symbol(s: &[i32], k: usize) -> Complex
     Complex { re, im }
 }
 
-// The 32 real components of T, pair by pair.
-fn combined(h1: Complex, h2: Complex, received: &[i32]) -> [i64; 32]
-    requires { ⌜ Small 32768 h1 × Small 32768 h2 × Parts 2147483648 (now received) ⌝ }
-    ensures { λ r. ⌜ r ≡ combined h1 h2 (now (received .entry)) ⌝ }
+// The two components of a symbol of T are neighbours, with the same sign in every signature: they are added once.
+fn neighbours(t: Complex) -> i64
+    requires { ⌜ Small 281474976710656 t ⌝ }
+    ensures { λ r. ⌜ r ≡ t .re +ℤ t .im ⌝ }
 {
-    let mut t = [0i64; 32];
+    t.re + t.im
+}
+
+// The sums of neighbours, two symbols at a time.
+fn pair_sums(h1: Complex, h2: Complex, received: &[i32]) -> [i64; 16]
+    requires { ⌜ Small 32768 h1 × Small 32768 h2 × Parts 2147483648 (now received) ⌝ }
+    ensures { λ r. ⌜ r ≡ pairSums (combined h1 h2 (now (received .entry))) ⌝ }
+{
+    let mut sums = [0i64; 16];
     let mut m = 0;
     while m < 8 {
         let r1 = symbol(received, 2 * m);
         let r2 = symbol(received, 2 * m + 1);
-        let first = first_of(h1, h2, r1, r2);
-        let second = second_of(h1, h2, r1, r2);
-        let a = first.re;
-        let b = first.im;
-        let c = second.re;
-        let d = second.im;
-        t[4 * m] = a;
-        t[4 * m + 1] = b;
-        t[4 * m + 2] = c;
-        t[4 * m + 3] = d;
+        let first = neighbours(first_of(h1, h2, r1, r2));
+        let second = neighbours(second_of(h1, h2, r1, r2));
+        sums[2 * m] = first;
+        sums[2 * m + 1] = second;
         m += 1;
-    }
-    t
-}
-
-// Two components at a time: both have the same sign in every signature.
-fn pair_sums(t: &[i64]) -> [i64; 16]
-    requires { ⌜ Parts 281474976710656 (now t) ⌝ }
-    ensures { λ r. ⌜ r ≡ pairSums (now (t .entry)) ⌝ }
-{
-    let mut sums = [0i64; 16];
-    let mut j = 0;
-    while j < 32 {
-        sums[j / 2] = sums[j / 2] + t[j];
-        j += 1;
     }
     sums
 }
@@ -140,27 +129,19 @@ fn level(s: &mut [i64], h: usize)
     }
 }
 
-// Halves the run and folds each half again, down to runs of one number. The depth is the logarithm of the length.
+// Halves the run and folds each half again, until the halves have one number each. The depth is the logarithm of the length.
 fn fold(s: &mut [i64])
     requires { ⌜ Room (now s) ⌝ }
     ensures { λ _. ⌜ now (s .exit) ≡ folds (depth (now (s .entry))) (now (s .entry)) ⌝ }
 {
-    if 1 < s.len() {
-        let h = s.len() / 2;
+    let h = s.len() / 2;
+    if 0 < h {
         level(s, h);
-        fold(&mut s[..h]);
-        fold(&mut s[h..]);
+        if 1 < h {
+            fold(&mut s[..h]);
+            fold(&mut s[h..h + h]);
+        }
     }
-}
-
-// The correlation with each signature: neighbours are added once, and what is left is folded.
-fn correlate(t: &[i64]) -> [i64; 16]
-    requires { ⌜ Parts 281474976710656 (now t) ⌝ }
-    ensures { λ r. ⌜ r ≡ correlations (now (t .entry)) ⌝ }
-{
-    let mut sums = pair_sums(t);
-    fold(&mut sums);
-    sums
 }
 
 // A gain of two parts of 16 bits.
@@ -179,6 +160,7 @@ pub fn numbers(h1_re: i16, h1_im: i16, h2_re: i16, h2_im: i16, received: [i32; 3
 {
     let h1 = gain(h1_re, h1_im);
     let h2 = gain(h2_re, h2_im);
-    let t = combined(h1, h2, &received);
-    correlate(&t)
+    let mut sums = pair_sums(h1, h2, &received);
+    fold(&mut sums);
+    sums
 }

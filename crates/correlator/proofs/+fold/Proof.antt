@@ -1,13 +1,13 @@
--- `correlator::fold` meets its contract: what a level leaves is two runs, each one level less deep.
--- The measure is the logarithm of the length and falls at each call, so calls are never nested deeper than that.
+-- `correlator::fold` meets its contract: what a level leaves is two runs, each one level less deep. The measure is the logarithm of the length and falls at each call, so
+-- calls are never nested deeper than that.
 -- Assumes nothing.
-use Prim.Native.Nat.{ℕ, _<_}
 use mathlib.Core.Path.{_∙_}
 use native.Mathlib.Omega.{arith}
 use lib.ListN.{length-take}
 use borrow.Author.Needs.{needs}
-use Rattle.correlator.proofs.Folding.{can-level, level-length, first-part, sums-less, sums-room, second-part, differences-less, differences-room, both-parts, one-stays}
 use Rattle.correlator.specs.Method.{depth}
+use Rattle.correlator.proofs.Folding.{can-level, one-stays, Levelled, levelled-length, last-level, first-can, first-less, second-can, second-less, both-parts}
+use Prim.Native.Nat.{ℕ, _<_}
 use borrow.Fn.Kinds.{In}
 use borrow.Fn.PlainCycle.{Measures, is, falls, and}
 use Rattle.correlator.proofs.fold.Reads as fold
@@ -26,6 +26,15 @@ fold-at t = and 1 fold-kinds.ps (is 1 fold-kinds.ps μ-fold t) fold.Pre
 abbrev fold-below : ℕ → In 1 fold-kinds.ps
 fold-below t = and 1 fold-kinds.ps (falls 1 fold-kinds.ps _<_ μ-fold t) fold.Pre
 
+-- the run after the level
+cut : (t : ℕ) (c : fold-lts.After-level (
+  level-reads.Asked,
+  level-reads.Learnt,
+  fold-below t,
+  fold.Post,
+) (fold-at t) fold.Post) → Levelled (c .before .before .before .args .s .now) (c .level .last .0)
+cut t c = record { room = c .before .before .before .pre .1; big = c .before .before .if1 .taken; is = c .level .ensures }
+
 fold-level-requires : (t : ℕ) → fold-lts.Need-level-requires (
   level-reads.Asked,
   level-reads.Learnt,
@@ -40,9 +49,7 @@ fold-slice-relend-prefix-fold : (t : ℕ) → fold-lts.Need-slice-relend-prefix-
   fold-below t,
   fold.Post,
 ) (fold-at t) fold.Post
-fold-slice-relend-prefix-fold t c =
-    let branch = c .before .before .before in
-    omega (arith, level-length _ (branch .before .pre .1) (branch .if1 .taken) _ (c .before .level .ensures))
+fold-slice-relend-prefix-fold t c = omega (arith, levelled-length (cut t (c .before .before)))
 
 fold-slice-aggregate-fold : (t : ℕ) → fold-lts.Need-slice-aggregate-fold (
   level-reads.Asked,
@@ -50,9 +57,7 @@ fold-slice-aggregate-fold : (t : ℕ) → fold-lts.Need-slice-aggregate-fold (
   fold-below t,
   fold.Post,
 ) (fold-at t) fold.Post
-fold-slice-aggregate-fold t c =
-    let branch = c .before .before .before .before in
-    simp length-take (omega (arith, level-length _ (branch .before .pre .1) (branch .if1 .taken) _ (c .before .before .level .ensures)))
+fold-slice-aggregate-fold t c = simp length-take (omega (arith, levelled-length (cut t (c .before .before .before))))
 
 fold-fold-requires : (t : ℕ) → fold-lts.Need-fold-requires (
   level-reads.Asked,
@@ -61,9 +66,16 @@ fold-fold-requires : (t : ℕ) → fold-lts.Need-fold-requires (
   fold.Post,
 ) (fold-at t) fold.Post
 fold-fold-requires t c κs =
-    let branch = c .before .before .before .before in
-    let part = first-part _ (branch .before .pre .1) (branch .if1 .taken) _ (c .before .before .level .ensures) in
-    (rw (part, ← branch .before .pre .0) (sums-less _ (branch .before .pre .1) (branch .if1 .taken)), rw part (sums-room _ (branch .before .pre .1) (branch .if1 .taken)))
+    let levelled = c .before .before .before in
+    (rw (← levelled .before .before .before .pre .0) (first-less (cut t levelled)), first-can (cut t levelled))
+
+fold-add-fold : (t : ℕ) → fold-lts.Need-add-fold (
+  level-reads.Asked,
+  level-reads.Learnt,
+  fold-below t,
+  fold.Post,
+) (fold-at t) fold.Post
+fold-add-fold t c = search needs
 
 fold-mul-fold : (t : ℕ) → fold-lts.Need-mul-fold (
   level-reads.Asked,
@@ -104,12 +116,9 @@ fold-fold-requires-2 : (t : ℕ) → fold-lts.Need-fold-requires-2 (
   fold.Post,
 ) (fold-at t) fold.Post
 fold-fold-requires-2 t c κs =
-    let levelled = c .before .before .before .before .before in
-    let branch = levelled .before .before in
-    let part =
-    second-part _ (branch .before .pre .1) (branch .if1 .taken) _ (levelled .level .ensures) _ (c .before .before .fold .ensures)
-    in
-    (rw (part, ← branch .before .pre .0) (differences-less _ (branch .before .pre .1) (branch .if1 .taken)), rw part (differences-room _ (branch .before .pre .1) (branch .if1 .taken)))
+    let levelled = c .before .before .before .before .before .before in
+    let come = c .before .before .fold .ensures in
+    (rw (← levelled .before .before .before .pre .0) (second-less (cut t levelled) _ come), second-can (cut t levelled) _ come)
 
 fold-same-length : (t : ℕ) → fold-lts.Need-same-length (
   level-reads.Asked,
@@ -118,9 +127,8 @@ fold-same-length : (t : ℕ) → fold-lts.Need-same-length (
   fold.Post,
 ) (fold-at t) fold.Post
 fold-same-length t c =
-    let levelled = c .before .before .before .before .before .before .before in
-    let branch = levelled .before .before in
-    c .s3 .given .1 ∙ c .before .before .before .s2 .given .1 ∙ level-length _ (branch .before .pre .1) (branch .if1 .taken) _ (levelled .level .ensures)
+    let levelled = c .before .before .before .before .before .before .before .before in
+    c .s3 .given .1 ∙ c .before .before .before .s2 .given .1 ∙ levelled-length (cut t levelled)
 
 fold-returns : (t : ℕ) → fold-lts.Need-returns (
   level-reads.Asked,
@@ -129,9 +137,16 @@ fold-returns : (t : ℕ) → fold-lts.Need-returns (
   fold.Post,
 ) (fold-at t) fold.Post
 fold-returns t c =
-    let levelled = c .before .before .before .before .before .before .before in
-    let branch = levelled .before .before in
-    both-parts _ (branch .before .pre .1) (branch .if1 .taken) _ (levelled .level .ensures) _ (c .before .before .before .before .fold .ensures) _ (c .before .fold2 .ensures)
+    let levelled = c .before .before .before .before .before .before .before .before in
+    both-parts (cut t levelled) _ (c .before .before .before .before .fold .ensures) _ (c .before .fold2 .ensures)
+
+fold-same-length-2 : (t : ℕ) → fold-lts.Need-same-length-2 (
+  level-reads.Asked,
+  level-reads.Learnt,
+  fold-below t,
+  fold.Post,
+) (fold-at t) fold.Post
+fold-same-length-2 t c = levelled-length (cut t (c .before .before))
 
 fold-returns-2 : (t : ℕ) → fold-lts.Need-returns-2 (
   level-reads.Asked,
@@ -139,7 +154,15 @@ fold-returns-2 : (t : ℕ) → fold-lts.Need-returns-2 (
   fold-below t,
   fold.Post,
 ) (fold-at t) fold.Post
-fold-returns-2 t c = one-stays _ (c .before .pre .1) (c .if1 .left)
+fold-returns-2 t c = last-level (cut t (c .before .before)) (c .if2 .left)
+
+fold-returns-3 : (t : ℕ) → fold-lts.Need-returns-3 (
+  level-reads.Asked,
+  level-reads.Learnt,
+  fold-below t,
+  fold.Post,
+) (fold-at t) fold.Post
+fold-returns-3 t c = one-stays _ (c .before .pre .1) (omega arith)
 
 pub +fold-spec : {M : Type 1} → statement M
 +fold-spec = close μ-fold λ t. fold-lts.spec (
@@ -154,6 +177,7 @@ pub +fold-spec : {M : Type 1} → statement M
     (fold-slice-relend-prefix-fold t)
     (fold-slice-aggregate-fold t)
     (fold-fold-requires t)
+    (fold-add-fold t)
     (fold-mul-fold t)
     (fold-sub-fold t)
     (fold-part-fold-start t)
@@ -161,4 +185,6 @@ pub +fold-spec : {M : Type 1} → statement M
     (fold-fold-requires-2 t)
     (fold-same-length t)
     (fold-returns t)
+    (fold-same-length-2 t)
     (fold-returns-2 t)
+    (fold-returns-3 t)
