@@ -1,22 +1,26 @@
-# Targets: run (the program on an example job), test (the gate), lib (the proved archive for C), slotline (the program), install, bench; and the steps of
-# test: fmt, audit, second, jobs, cases, host, fuzz, package.
+# Targets: run (the program on an example job), test (the gate), lib (the proved archive for C), slotline (the program), install, bench, pictures; and the steps of
+# test: fmt, audit, second, jobs, cases, host, fuzz, package. tools-run and tools-test look for what run and test need.
 CFLAGS = -std=c11 -O2 -g -Wall -Wextra -Werror
 SANITIZE = -fsanitize=address,undefined -fno-sanitize-recover=all
 LIB = target/staticlib/libslt.a
 SLOTLINE = target/bin/slotline
 SECOND = target/second/release
 
-.PHONY: test steps lib slotline run fmt audit judges second jobs cases host fuzz install package bench clean
+.PHONY: test tools-run tools-test steps lib slotline run fmt audit pictures judges second jobs cases host fuzz install package bench bench-programs bench-table clean
 
 # What the steps stand on is proved first, then the steps go two at a time, the output of each in one piece. rt ci comes last: it proves every crate from
 # nothing, tries every must-fail edit, and prints the verdict. It starts four checks at a time, so that two cores stay busy while one waits for its fellows.
 export RT_JOBS = 4
-test:
+test: | tools-test
 	rt check $(BELOW_C) slotline
 	$(MAKE) --no-print-directory -j2 --output-sync=target steps
 	rt ci
 
 steps: fmt audit second jobs cases host fuzz package
+
+# The tools, one list for both commands. What is missing is installed where it may be, else the command that does it is printed.
+tools-run tools-test:
+	@sh setup/tools.sh $(@:tools-%=%)
 
 fmt:
 	rt fmt --check
@@ -32,16 +36,21 @@ lib:
 	cd $(dir $(LIB)) && for name in $(C_CALLS); do ar x lib$$name.a || exit 1; done && ar crs $(notdir $(LIB)) $(addsuffix .o,$(C_CALLS))
 
 # Proves the program that reads a job file and what it stands on, and compiles it.
-slotline:
+slotline: | tools-run
 	$(ONE_RT) rt check slotline
 
 # The program on an example job. On a file of one's own: target/bin/slotline < FILE
 run: slotline
 	$(SLOTLINE) < examples/three_kinds.slt
 
-# docs/PROMISES.md against the source.
+# The pages, the header, the comments and the pictures against the source; then the audit itself, tried on wrong words that it must find.
 audit:
-	python3 audit/promises.py
+	python3 -B audit/audit.py
+	python3 -B audit/test_audit.py
+
+# The pictures of docs/, drawn anew from crates.txt and from the specs.
+pictures:
+	python3 -B audit/pictures.py
 
 # What needs no archive of the independent second program: its own tests, and the programs that judge job files, cases and random calls.
 judges:
@@ -102,14 +111,25 @@ package: lib slotline
 	$(MAKE) --no-print-directory -o lib -o slotline install DESTDIR= PREFIX=$(INSTALLED)
 	sh packaging/try.sh $(INSTALLED) target/outside
 
-# Ratios to plain C and to memcpy, in one run. Not a test: nothing fails by its numbers. The program slotline is timed
-# against a program of its own in plain C.
-PLAIN_PROGRAM = bench/plain_slotline.c
-bench: lib slotline
-	mkdir -p target/bench
-	$(CC) -std=c11 -O3 -Wall -Wextra -Werror -Ibench $(PLAIN_PROGRAM) bench/plain_dpch.c bench/plain_aich.c -o target/bench/plain_slotline
-	$(CC) -std=c11 -O3 -Wall -Wextra -Werror -Iinclude -Ibench $(filter-out $(PLAIN_PROGRAM),$(wildcard bench/*.c)) $(LIB) -o target/bench/bench
-	target/bench/bench $(SLOTLINE) target/bench/plain_slotline
+# Ratios to plain C, to tight C and to memcpy, in one run. It fails where the library and the C beside it answer or write anything that is not the
+# same; nothing fails by its numbers. The program slotline is timed against programs of its own.
+BENCH = target/bench
+BENCH_CC = $(CC) -std=c11 -O3 -Wall -Wextra -Werror -Iinclude -Ibench
+YARDSTICKS = $(filter-out %_slotline.c,$(wildcard bench/plain_*.c bench/tight_*.c))
+TIMED = $(filter-out bench/plain_%.c bench/tight_%.c,$(wildcard bench/*.c))
+bench-programs: lib slotline
+	mkdir -p $(BENCH)
+	for whose in plain tight; do $(BENCH_CC) bench/$${whose}_slotline.c $(YARDSTICKS) -o $(BENCH)/$${whose}_slotline || exit 1; done
+	$(BENCH_CC) $(TIMED) $(YARDSTICKS) $(LIB) -lm -o $(BENCH)/bench
+
+RUN_BENCH = $(BENCH)/bench $(SLOTLINE) $(BENCH)/tight_slotline $(BENCH)/plain_slotline
+bench: bench-programs
+	$(RUN_BENCH)
+
+# The table of docs/SPEED.md: medians of nine runs, with the least and the greatest seen.
+RUNS = 9
+bench-table: bench-programs
+	python3 bench/table.py $(RUNS) $(RUN_BENCH)
 
 clean:
 	rm -rf target

@@ -22,9 +22,7 @@ use Rattle.signature.specs.Rule.{sign}
 use Rattle.aich.specs.Rule.{valueAt, valuesOf, correlation, unit, indicatorsIn}
 use Rattle.aich.specs.Method.{halfOf, firsts, signOf, fits16}
 use Rattle.signature.proofs.Signs.{sign-small, sign-half, sign-second, sign-swap, half-dot}
-
-abbrev pub entry : List ℤ → ℕ → ℤ
-entry x k = getD x k (pos 0)
+pub use Rattle.signature.proofs.Folding.{entry}
 
 -- ---- one sum for each pair
 

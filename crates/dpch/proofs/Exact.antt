@@ -1,7 +1,7 @@
 -- The theorems of specs/Exact.antt.
 -- Assumes nothing.
 use mathlib.Core.Path.{_≡_, refl}
-use mathlib.Core.Bool.{Bool, true, false, _||_}
+use mathlib.Core.Bool.{Bool, true, _||_}
 use Prim.Native.Nat.{ℕ, _≤_}
 use native.Mathlib.Omega.{arith}
 use borrow.Author.Tests.{eqb-true, leb-true, ltb-true}
@@ -9,6 +9,7 @@ use lib.Dec.{leb, ltb, eqb}
 use lib.ListN.{length, take}
 use Rattle.run.specs.First.{firstBad, Every}
 use Rattle.run.specs.Fields.{total, joined}
+use Rattle.run.proofs.Bools.{either}
 use Rattle.run.proofs.First.{every-by}
 use Rattle.run.proofs.Table.{table-test, all-of}
 use Rattle.dpch.specs.declared.Format.{Format}
@@ -40,10 +41,6 @@ format-sizes n =
 -- the bits that a pilot can have, 0 for the row of zeros
 pilotBits : ℕ → Bool
 pilotBits bits = eqb bits 0 || eqb bits 2 || eqb bits 4 || eqb bits 8 || eqb bits 16
-
-either : (a b : Bool) {X : Type 0} → (a || b) ≡ true → (a ≡ true → X) → (b ≡ true → X) → X
-either true b e f g = f refl
-either false b e f g = g e
 
 -- what holds for patterns of 0, 2, 4, 8 and 16 bits holds for the pilot of every format
 pub at-each : (P : ℕ → Type 0) → P 0 → P 2 → P 4 → P 8 → P 16 → (format : ℕ) → P (formatOf format .pilot)

@@ -1,6 +1,6 @@
 -- Laws of the reader: its scan of antenna 1 slot by slot, antenna 2 against what antenna 1 implies, and the data slot after slot.
 -- Assumes nothing.
-use mathlib.Core.Path.{_≡_, refl, sym, ap, _∙_, subst}
+use mathlib.Core.Path.{_≡_, refl, sym, ap, _∙_, subst, subst₂}
 use mathlib.Core.Bool.{not}
 use mathlib.Core.List.{List}
 use Prim.Native.Nat.{ℕ, zero, suc, _+_, _-_, _*_, _%_, _≤_, _<_, min}
@@ -9,15 +9,21 @@ use borrow.Rule.Slice.PartMut.{putMid, midOf}
 use borrow.Author.Tests.{leb-true, lt-ltb, le-ltb}
 use lib.Dec.{eqb, leb}
 use lib.ListN.{length, getD, take, drop}
+use Rattle.run.specs.declared.Verdict.{Verdict}
 use Rattle.run.specs.Digits.{dtx}
 use Rattle.run.specs.First.{firstBad, Every, atMost, isAt, agree}
+use Rattle.run.specs.Verdicts.{done}
 use Rattle.run.specs.Written.{over}
+use Rattle.run.proofs.Chain.{leaves-done}
 use Rattle.run.proofs.First.{first-in-part, part-passes}
 use Rattle.run.proofs.Front.{Front}
 use Rattle.run.proofs.Lent.{part-width, part-length, part-at, same-part, front-copied}
-use Rattle.pccpch.specs.Rule.{place, secondOf, dataIn}
-use Rattle.pccpch.specs.Outcome.{rightKind}
-use Rattle.pccpch.proofs.Laws.{second-length, data-length, data-at}
+use Rattle.pccpch.specs.Rule.{place, frameOf, secondOf, dataIn}
+use Rattle.pccpch.specs.Outcome.{mapVerdict, Map, rightKind, readVerdict}
+use Rattle.pccpch.proofs.Checks.{taken}
+use Rattle.pccpch.proofs.Exact.{mapped-accepted}
+use Rattle.pccpch.proofs.Laws.{frame-length, second-length, data-length, data-at}
+use Rattle.scan.proofs.Laws.{found-same}
 
 -- of a digit: at most 1 is as much as not DTX
 bit-kind : (d : ℕ) → d ≤ 2 → leb d 1 ≡ not (eqb d 2)
@@ -80,6 +86,21 @@ differs antenna1 antenna2 digits implied r long e f found =
     let n : length implied ≡ 300 = ap length is ∙ second-length (dataIn antenna1) in
     let shorter : min (length implied) (length antenna2) ≡ 300 = omega arith in
     found ∙ rw shorter (ap (λ (t : List ℕ). firstBad (agree t antenna2) 300) is)
+
+-- frames in which no place differs from what `map` gives are accepted
+pub given-accepted : (antenna1 antenna2 : List ℕ) {digits f₀ s₀ first second : List ℕ} {v : Verdict} {i j : ℕ} → Map digits f₀ s₀ v first second → v .number ≡ 0
+    → length f₀ ≡ 300 → length s₀ ≡ 300 → length antenna1 ≡ 300 → length antenna2 ≡ 300
+    → i ≡ firstBad (agree first antenna1) (min (length first) (length antenna1)) → 300 ≤ i
+    → j ≡ firstBad (agree second antenna2) (min (length second) (length antenna2)) → 300 ≤ j
+    → readVerdict antenna1 antenna2 270 ≡ done
+given-accepted antenna1 antenna2 {digits} {f₀} {s₀} {first} {second} m h n1 n2 l1 l2 e1 p1 e2 p2 =
+    let z : mapVerdict digits (length f₀) (length s₀) .number ≡ 0 = rw (m .verdict-is) at h in
+    let is1 : first ≡ frameOf digits = m .antenna1-is ∙ leaves-done _ _ _ z in
+    let is2 : second ≡ secondOf digits = m .antenna2-is ∙ leaves-done _ _ _ z in
+    let same1 = found-same _ _ 300 _ (ap length is1 ∙ frame-length digits) l1 e1 p1 in
+    let same2 = found-same _ _ 300 _ (ap length is2 ∙ second-length digits) l2 e2 p2 in
+    subst₂ (λ (f g : List ℕ). readVerdict f g 270 ≡ done) (sym is1 ∙ same1) (sym is2 ∙ same2)
+    (mapped-accepted digits (taken digits 300 300 (rw (n1, n2) at z)))
 
 -- the data as it is read, slot after slot
 module _ (frame : List ℕ) (long : length frame ≡ 300) (s : ℕ) (h : s < 15) where

@@ -6,8 +6,10 @@ use run::or_else;
 use run::refusal;
 use run::unless;
 ghost use mathlib.Core.Path.{_≡_};
+ghost use mathlib.Core.Bool.{true};
 ghost use lib.ListN.{length};
 ghost use Rattle.run.specs.First.{firstBad, Every, atMost, agree};
+ghost use Rattle.run.specs.Verdicts.{done};
 ghost use Rattle.pccpch.specs.Rule.{secondOf, dataIn};
 ghost use Rattle.pccpch.specs.Outcome.{readHead, rightKind, readBody, readVerdict, Read};
 
@@ -86,9 +88,50 @@ fn read_body(antenna1: &[u8], antenna2: &[u8]) -> Verdict
     or_else(unless(300 <= k, refusal::FRAME, k), second)
 }
 
+// The three lengths are those of two frames and their data.
+fn lengths_fit(length1: usize, length2: usize, data_length: usize) -> bool
+    ensures { λ r. ⌜ (r ≡ true → (length1 ≡ 300) × (length2 ≡ 300) × («data_length» ≡ 270)) ⌝ }
+{
+    if length1 != 300 {
+        return false;
+    }
+    if length2 != 300 {
+        return false;
+    }
+    data_length == 270
+}
+
+// Whether the data of antenna 1 gives both frames. It is mapped again and the frames are compared, many digits at a time; no check can refuse what is given.
+fn is_given(antenna1: &[u8], antenna2: &[u8]) -> bool
+    requires { ⌜ (length (now antenna1) ≡ 300) × (length (now antenna2) ≡ 300) ⌝ }
+    ensures { λ r. ⌜ (r ≡ true → readVerdict (now (antenna1 .entry)) (now (antenna2 .entry)) 270 ≡ done) ⌝ }
+{
+    let mut data = [0u8; 270];
+    take_data(antenna1, &mut data);
+    let mut first = [DTX; 300];
+    let mut second = [DTX; 300];
+    let verdict = pccpch::map(&data, &mut first, &mut second);
+    if verdict.number != 0 {
+        return false;
+    }
+    if scan::first_diff(&first, antenna1) < 300 {
+        return false;
+    }
+    300 <= scan::first_diff(&second, antenna2)
+}
+
+// What is given is accepted at once. Else the checks in their order find the refusal.
 fn read_verdict(antenna1: &[u8], antenna2: &[u8], data_length: usize) -> Verdict
     ensures { λ r. ⌜ r ≡ readVerdict (now (antenna1 .entry)) (now (antenna2 .entry)) «data_length» ⌝ }
 {
+    if lengths_fit(antenna1.len(), antenna2.len(), data_length) {
+        if is_given(antenna1, antenna2) {
+            return Verdict {
+                number: 0,
+                place: 0,
+            };
+        }
+    }
     let head = read_head(antenna1, antenna2, data_length);
     if head.number != 0 {
         return head;

@@ -2,9 +2,9 @@
 use run::DTX;
 use run::shorter;
 ghost use mathlib.Core.Path.{_≡_};
-ghost use Prim.Native.Nat.{min};
+ghost use Prim.Native.Nat.{_≤_, min};
 ghost use lib.ListN.{length};
-ghost use Rattle.run.specs.First.{firstBad, Every, atMost, isAt, notAt, likeFirst, agree};
+ghost use Rattle.run.specs.First.{firstBad, all, Every, atMost, isAt, notAt, likeFirst, agree};
 
 // A digit that none of the run is above. A loop that takes no early way out can go many digits at a time.
 fn highest(s: &[u8]) -> u8
@@ -80,11 +80,30 @@ pub fn first_unlike(s: &[u8]) -> usize
     first_other(s, v)
 }
 
+// Whether the first n digits of two runs are the same.
+fn all_agree(s: &[u8], t: &[u8], n: usize) -> bool
+    requires { ⌜ (n ≤ length (now s)) × (n ≤ length (now t)) ⌝ }
+    ensures { λ r. ⌜ r ≡ all n (agree (now (s .entry)) (now (t .entry))) ⌝ }
+{
+    let mut good = true;
+    let mut k = 0;
+    while k < n {
+        if s[k] != t[k] {
+            good = false;
+        }
+        k += 1;
+    }
+    good
+}
+
 // The first place at which two runs differ, as far as the shorter goes.
 pub fn first_diff(s: &[u8], t: &[u8]) -> usize
     ensures { λ r. ⌜ r ≡ firstBad (agree (now (s .entry)) (now (t .entry))) (min (length (now (s .entry))) (length (now (t .entry)))) ⌝ }
 {
     let n = shorter(s.len(), t.len());
+    if all_agree(s, t, n) {
+        return n;
+    }
     let mut i = 0;
     while i < n {
         if s[i] != t[i] {

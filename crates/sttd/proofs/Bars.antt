@@ -2,7 +2,7 @@
 -- Assumes nothing.
 use mathlib.Core.Path.{_≡_, refl, sym, ap, _∙_}
 use mathlib.Core.Bool.{Bool, true, false}
-use Prim.Native.Nat.{ℕ, zero, suc, _-_, _≤_, _<_}
+use Prim.Native.Nat.{ℕ, zero, suc, _-_, _≤_, _<_, min}
 use native.Mathlib.Omega.{arith}
 use borrow.Author.Tests.{ltb-true, ltb-false, ne-eqb, le-ltb}
 use lib.Bits.{bitXor, xor-zero-r}
@@ -37,6 +37,14 @@ bar-by-bit (suc zero) = refl
 bar-by-bit (suc (suc d)) =
     let h : 2 ≤ suc (suc d) = omega arith in
     rw (le-ltb (suc (suc d)) 2 h) (xor-zero-r (suc (suc d)) ∙ sym (bar-other (suc (suc d)) h))
+
+-- of a digit, the lowest bit changes and DTX is brought back
+pub bar-by-cap : (d : ℕ) → d ≤ 2 → min (bitXor d 1) 2 ≡ barDigit d
+unfolding barDigit
+bar-by-cap zero h = refl
+bar-by-cap (suc zero) h = refl
+bar-by-cap (suc (suc zero)) h = refl
+bar-by-cap (suc (suc (suc d))) h = absurd (let z : ⊥ = omega arith in z)
 
 pub bar-twice : (d : ℕ) → barDigit (barDigit d) ≡ d
 bar-twice d = side (ltb d 2) refl

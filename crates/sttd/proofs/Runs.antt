@@ -5,14 +5,15 @@ use mathlib.Core.Bool.{true}
 use mathlib.Core.List.{List}
 use Prim.Native.Nat.{ℕ, _+_, _*_, _/_, _%_, _≤_, _<_, min}
 use native.Mathlib.Omega.{arith}
-use borrow.Author.Tests.{eqb-true}
+use borrow.Author.Tests.{eqb-true, leb-true}
+use lib.Bits.{bitXor}
 use lib.IntN.{ℤ, pos, negℤ}
 use lib.ListN.{length, getD, set, take, drop, length-set}
 use lib.Seq.{take-all, getD-take, length-take-le}
 use mir.Syntax.{w32}
 use mir.Val.{toZ, ofZ}
 use mir.ValLaws.{toZ-ofZ}
-use Rattle.run.specs.First.{Every, atMost}
+use Rattle.run.specs.First.{Every}
 use Rattle.run.specs.Written.{over}
 use Rattle.run.proofs.Chain.{or-else-done, unless-done, each-done}
 use Rattle.run.proofs.Front.{Front, front-length, front-store, front-end}
@@ -20,7 +21,7 @@ use Rattle.run.proofs.Over.{over-length, over-at, over-rest, over-whole}
 use Rattle.sttd.specs.Rule.{sttd, barDigit}
 use Rattle.sttd.specs.Outcome.{digitsVerdict, valueIn, valuesIn, valuesVerdict, encodedOver}
 use Rattle.sttd.specs.Exact.{Block}
-use Rattle.sttd.proofs.Bars.{value-fits, negated-fits}
+use Rattle.sttd.proofs.Bars.{bar-by-cap, value-fits, negated-fits}
 use Rattle.sttd.proofs.Laws.{sttd-length, block-at}
 
 module _ {A : Type 0} (bar : A → A) where
@@ -49,10 +50,10 @@ module _ (input out₀ : List ℕ) (k : ℕ) (given : 4 * k ≤ length input) (r
   coded-length = sttd-length barDigit (take (4 * k) input) ∙ length-take-le (4 * k) input given
 
   -- one block more
-  block-over : {out : List ℕ} {i v0 v3 : ℕ} → i % 4 ≡ 0 → i < 4 * k → Front (over (sttd barDigit (take (4 * k) input)) out₀) out₀ out i
-      → v0 ≡ barDigit (getD input (i + 2) 0) → v3 ≡ barDigit (getD input (i + 1) 0)
-      → Front (over (sttd barDigit (take (4 * k) input)) out₀) out₀ (set (set (set (set out i v0) (i + 1) (getD input (i + 3) 0)) (i + 2) (getD input i 0)) (i + 3) v3) (i + 4)
-  block-over {out} {i} {v0} {v3} e h f e0 e3 =
+  block-over : {out : List ℕ} {i v0 v1 v2 v3 : ℕ} → i % 4 ≡ 0 → i < 4 * k → Front (over (sttd barDigit (take (4 * k) input)) out₀) out₀ out i
+      → v0 ≡ barDigit (getD input (i + 2) 0) → v1 ≡ getD input (i + 3) 0 → v2 ≡ getD input i 0 → v3 ≡ barDigit (getD input (i + 1) 0)
+      → Front (over (sttd barDigit (take (4 * k) input)) out₀) out₀ (set (set (set (set out i v0) (i + 1) v1) (i + 2) v2) (i + 3) v3) (i + 4)
+  block-over {out} {i} e h f e0 e1 e2 e3 =
       let n = length-take-le (4 * k) input given in
       let m = coded-length in
       let of : (j : ℕ) → j < 4 * k → getD input j 0 ≡ getD (take (4 * k) input) j 0 = (λ j l. sym (getD-take (4 * k) input j 0 l)) in
@@ -60,8 +61,8 @@ module _ (input out₀ : List ℕ) (k : ℕ) (given : 4 * k ≤ length input) (r
       (λ j l. over-at (sttd barDigit (take (4 * k) input)) out₀ j 0 (omega arith))
       f (omega arith)
       (e0 ∙ ap barDigit (of (i + 2) (omega arith)))
-      (of (i + 3) (omega arith))
-      (of i (omega arith))
+      (e1 ∙ of (i + 3) (omega arith))
+      (e2 ∙ of i (omega arith))
       (e3 ∙ ap barDigit (of (i + 1) (omega arith)))
 
   -- behind the blocks all is as it was
@@ -74,11 +75,23 @@ module _ (input out₀ : List ℕ) where
   encoded-length = over-length _ out₀
 
   -- n is what the two runs have in common, as the code has it
-  pub encoded-block : {out : List ℕ} {n i v0 v3 : ℕ} → n ≡ min (length input) (length out₀) → i % 4 ≡ 0 → i < 4 * (n / 4) → Front (encodedOver input out₀) out₀ out i
-      → v0 ≡ barDigit (getD input (i + 2) 0) → v3 ≡ barDigit (getD input (i + 1) 0)
-      → Front (encodedOver input out₀) out₀ (set (set (set (set out i v0) (i + 1) (getD input (i + 3) 0)) (i + 2) (getD input i 0)) (i + 3) v3) (i + 4)
+  pub encoded-block : {out : List ℕ} {n i v0 v1 v2 v3 : ℕ} → n ≡ min (length input) (length out₀) → i % 4 ≡ 0 → i < 4 * (n / 4)
+      → Front (encodedOver input out₀) out₀ out i
+      → v0 ≡ barDigit (getD input (i + 2) 0) → v1 ≡ getD input (i + 3) 0 → v2 ≡ getD input i 0 → v3 ≡ barDigit (getD input (i + 1) 0)
+      → Front (encodedOver input out₀) out₀ (set (set (set (set out i v0) (i + 1) v1) (i + 2) v2) (i + 3) v3) (i + 4)
   unfolding encodedOver
   encoded-block e d h f = block-over input out₀ (min (length input) (length out₀) / 4) (omega arith) (omega arith) d (omega arith) f
+
+  -- the same of digits, as the code finds them: each is capped, and those with a bar have another lowest bit
+  pub capped-block : Every (atMost 2 input) (length input) → {out : List ℕ} {n i v0 v1 v2 v3 : ℕ} → n ≡ min (length input) (length out₀) → i % 4 ≡ 0 → i < 4 * (n / 4)
+      → Front (encodedOver input out₀) out₀ out i
+      → v0 ≡ min (bitXor (getD input (i + 2) 0) 1) 2 → v1 ≡ min (getD input (i + 3) 0) 2 → v2 ≡ min (getD input i 0) 2 → v3 ≡ min (bitXor (getD input (i + 1) 0) 1) 2
+      → Front (encodedOver input out₀) out₀ (set (set (set (set out i v0) (i + 1) v1) (i + 2) v2) (i + 3) v3) (i + 4)
+  capped-block ok {i = i} e d h f e0 e1 e2 e3 =
+      let small : (j : ℕ) → j < length input → getD input j 0 ≤ 2 = (λ j l. leb-true _ _ (ok j l)) in
+      let s0 = small i (omega arith) in
+      let s3 = small (i + 3) (omega arith) in
+      encoded-block e d h f (e0 ∙ bar-by-cap _ (small (i + 2) (omega arith))) (omega arith) (omega arith) (e3 ∙ bar-by-cap _ (small (i + 1) (omega arith)))
 
   pub encoded-end : {out : List ℕ} {n i : ℕ} → n ≡ min (length input) (length out₀) → i ≡ 4 * (n / 4) → Front (encodedOver input out₀) out₀ out i → out ≡ encodedOver input out₀
   unfolding encodedOver
@@ -120,7 +133,6 @@ module _ (input : List ℤ) (long : length input ≡ 32) (ok : Every (valuesIn i
 pub record DigitsTaken (input : List ℕ) (outLength : ℕ) : Type 0 where
   pub input-ok : length input % 4 ≡ 0
   pub out-ok : outLength ≡ length input
-  pub digits-ok : Every (atMost 2 input) (length input)
 
 pub digits-taken : (input : List ℕ) (outLength : ℕ) → digitsVerdict input outLength .number ≡ 0 → DigitsTaken input outLength
 unfolding digitsVerdict
@@ -130,7 +142,6 @@ digits-taken input outLength h =
     record {
       input-ok = eqb-true _ _ (unless-done _ 3 0 (omega arith) (c1 .first));
       out-ok = eqb-true _ _ (unless-done _ 3 1 (omega arith) (c2 .first));
-      digits-ok = each-done 0 4 _ _ (omega arith) (c2 .rest);
     }
 
 pub record ValuesTaken (input : List ℤ) (outLength : ℕ) : Type 0 where

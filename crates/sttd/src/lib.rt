@@ -4,6 +4,9 @@ use run::or_else;
 use run::refusal;
 use run::unless;
 ghost use mathlib.Core.Path.{_≡_};
+ghost use Prim.Native.Nat.{min};
+ghost use lib.ListN.{length};
+ghost use Rattle.run.specs.First.{Every, atMost};
 ghost use Rattle.sttd.specs.Rule.{barDigit};
 ghost use Rattle.sttd.specs.Outcome.{digitsVerdict, Digits, encodedOver};
 
@@ -14,8 +17,8 @@ fn bar(d: u8) -> u8
     d ^ ((d < 2) as u8)
 }
 
-// As many whole blocks of four as both runs have, encoded over the front of `out`.
-pub fn encode(input: &[u8], out: &mut [u8])
+// As many whole blocks of four as both runs have, encoded over the front of `out`, whatever they hold.
+fn encode_any(input: &[u8], out: &mut [u8])
     ensures { λ _. ⌜ now (out .exit) ≡ encodedOver (now (input .entry)) (now (out .entry)) ⌝ }
 {
     let n = run::shorter(input.len(), out.len());
@@ -32,6 +35,46 @@ pub fn encode(input: &[u8], out: &mut [u8])
         out[i + 3] = bar(b1);
         i += 4;
     }
+}
+
+// No more than 2.
+fn capped(d: u8) -> u8
+    ensures { λ r. ⌜ r ≡ min d 2 ⌝ }
+{
+    if d < 2 { d } else { 2 }
+}
+
+// The same for digits. The lowest bit of b1 and b2 changes, and the cap brings DTX back, which it leaves where it stood. So all four digits of a block go the
+// same way, and the compiler takes a block at once.
+fn encode_digits(input: &[u8], out: &mut [u8])
+    requires { ⌜ Every (atMost 2 (now input)) (length (now input)) ⌝ }
+    ensures { λ _. ⌜ now (out .exit) ≡ encodedOver (now (input .entry)) (now (out .entry)) ⌝ }
+{
+    let n = run::shorter(input.len(), out.len());
+    let end = 4 * (n / 4);
+    let mut i = 0;
+    while i < end {
+        let b0 = input[i];
+        let b1 = input[i + 1];
+        let b2 = input[i + 2];
+        let b3 = input[i + 3];
+        out[i] = capped(b2 ^ 1);
+        out[i + 1] = capped(b3);
+        out[i + 2] = capped(b0);
+        out[i + 3] = capped(b1 ^ 1);
+        i += 4;
+    }
+}
+
+// As many whole blocks of four as both runs have, encoded over the front of `out`.
+pub fn encode(input: &[u8], out: &mut [u8])
+    ensures { λ _. ⌜ now (out .exit) ≡ encodedOver (now (input .entry)) (now (out .entry)) ⌝ }
+{
+    if input.len() <= scan::first_above(input, 2) {
+        encode_digits(input, out);
+        return;
+    }
+    encode_any(input, out);
 }
 
 fn digits_verdict(input: &[u8], out_length: usize) -> Verdict
@@ -52,6 +95,6 @@ pub fn digits(input: &[u8], out: &mut [u8]) -> Verdict
     if verdict.number != 0 {
         return verdict;
     }
-    encode(input, out);
+    encode_digits(input, out);
     verdict
 }

@@ -1,5 +1,6 @@
--- `scan::first_diff` meets its contract: the scan's laws at the test `agree s t`.
+-- `scan::first_diff` meets its contract: where all digits are the same no place fails; else the scan's laws at the test `agree s t`.
 -- Assumes nothing.
+use mathlib.Core.Path.{sym, _∙_}
 use Prim.Native.Nat.{_-_, _<_, min}
 use native.Mathlib.Omega.{arith}
 use borrow.Author.Needs.{needs}
@@ -7,7 +8,8 @@ use borrow.Author.Tests.{eq-eqb, ne-eqb}
 use denote.Ref.{now}
 use lib.ListN.{length}
 use Rattle.run.specs.First.{agree}
-use Rattle.run.proofs.First.{Scanned, scan-start, scan-hit, scan-pass, scan-end}
+use Rattle.run.proofs.First.{Scanned, scan-start, scan-hit, scan-pass, scan-end, first-none}
+use Rattle.run.proofs.Passing.{all-every}
 use Rattle.scan.proofs.first_diff.Statement.{statement}
 use Rattle.scan.proofs.first_diff.Tie as tie
 
@@ -20,20 +22,29 @@ abbrev μ-loop : tie.MeasureT-loop
 shorter-requires : tie.Need-shorter-requires Inv-loop μ-loop
 shorter-requires c κs = search needs
 
-loop-holds : tie.Need-loop-holds Inv-loop μ-loop
-loop-holds c = scan-start
-
-shared-slice-read-if1 : tie.Need-shared-slice-read-if1 Inv-loop μ-loop
-shared-slice-read-if1 c = omega arith
-
-shared-slice-read-if1-2 : tie.Need-shared-slice-read-if1-2 Inv-loop μ-loop
-shared-slice-read-if1-2 c = omega arith
+all-agree-requires : tie.Need-all-agree-requires Inv-loop μ-loop
+all-agree-requires c κs = (omega arith, omega arith)
 
 returns : tie.Need-returns Inv-loop μ-loop
 returns c =
+    let e = c .before .before .shorter .ensures in
+    let same = all-every _ _ (sym (c .before .all-agree .ensures) ∙ c .if1 .taken) in
+    e ∙ sym (first-none _ _ (rw (← e) same))
+
+loop-holds : tie.Need-loop-holds Inv-loop μ-loop
+loop-holds c = scan-start
+
+shared-slice-read-if2 : tie.Need-shared-slice-read-if2 Inv-loop μ-loop
+shared-slice-read-if2 c = omega arith
+
+shared-slice-read-if2-2 : tie.Need-shared-slice-read-if2-2 Inv-loop μ-loop
+shared-slice-read-if2-2 c = omega arith
+
+returns-2 : tie.Need-returns-2 Inv-loop μ-loop
+returns-2 c =
     let at-head = c .before .before .before .before in
-    let below : at-head .loop .i < min (length (now (at-head .before .before .before .before .args .s))) (length (now (at-head .before .before .before .before .args .t))) = omega arith in
-    scan-hit (at-head .loop .inv) below (ne-eqb _ _ (c .if1 .taken))
+    let below : at-head .loop .i < min (length (now (at-head .before .before .before .before .before .before .args .s))) (length (now (at-head .before .before .before .before .before .before .args .t))) = omega arith in
+    scan-hit (at-head .loop .inv) below (ne-eqb _ _ (c .if2 .taken))
 
 add-i : tie.Need-add-i Inv-loop μ-loop
 add-i c = omega arith
@@ -43,10 +54,10 @@ loop-less c = omega arith
 
 loop-again : tie.Need-loop-again Inv-loop μ-loop
 loop-again c =
-    scan-pass (c .before .before .before .before .loop .inv) (omega arith) (eq-eqb _ _ (c .if1 .left))
+    scan-pass (c .before .before .before .before .loop .inv) (omega arith) (eq-eqb _ _ (c .if2 .left))
 
-returns-2 : tie.Need-returns-2 Inv-loop μ-loop
-returns-2 c = scan-end (c .before .loop .inv) (omega arith)
+returns-3 : tie.Need-returns-3 Inv-loop μ-loop
+returns-3 c = scan-end (c .before .loop .inv) (omega arith)
 
 pub first-diff-spec : {M : Type 1} → statement M
 first-diff-spec =
@@ -55,11 +66,13 @@ first-diff-spec =
     Inv-loop
     μ-loop
     shorter-requires
-    loop-holds
-    shared-slice-read-if1
-    shared-slice-read-if1-2
+    all-agree-requires
     returns
+    loop-holds
+    shared-slice-read-if2
+    shared-slice-read-if2-2
+    returns-2
     add-i
     loop-less
     loop-again
-    returns-2)
+    returns-3)

@@ -15,8 +15,9 @@ returns c =
     let e = c .before .before .digits-verdict .ensures in
     record { verdict-is = e; out-is = sym (leaves-refused _ _ _ (rw e at (c .if1 .taken))) }
 
-encode-requires : tie.Need-encode-requires
-encode-requires c κs = search needs
+encode-digits-requires : tie.Need-encode-digits-requires
+encode-digits-requires c κs =
+    digits-taken _ _ (rw (c .before .before .before .digits-verdict .ensures) at (c .before .if1 .left)) .digits-ok
 
 same-length : tie.Need-same-length
 same-length c = search needs
@@ -27,8 +28,8 @@ returns-2 c =
     let e = turn .before .before .digits-verdict .ensures in
     let ok = rw e at (turn .if1 .left) in
     let t = digits-taken _ _ ok in
-    record { verdict-is = e; out-is = c .before .before .encode .ensures ∙ encoded-whole _ _ (t .input-ok) (t .out-ok) ∙ sym (leaves-done _ _ _ ok) }
+    record { verdict-is = e; out-is = c .before .before .encode-digits .ensures ∙ encoded-whole _ _ (t .input-ok) (t .out-ok) ∙ sym (leaves-done _ _ _ ok) }
 
 pub digits-spec : {M : Type 1} → statement M
 digits-spec =
-    tie.close (tie.spec digits-verdict-requires returns encode-requires same-length returns-2)
+    tie.close (tie.spec digits-verdict-requires returns encode-digits-requires same-length returns-2)

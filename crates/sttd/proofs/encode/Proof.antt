@@ -1,129 +1,39 @@
--- `sttd::encode` meets its contract: each turn writes one block more from the front on.
+-- `sttd::encode` meets its contract: both of its loops do.
 -- Assumes nothing.
-use mathlib.Core.Path.{_≡_, refl}
-use Prim.Native.Nat.{_-_, _%_, _≤_}
-use native.Mathlib.Omega.{arith}
 use borrow.Author.Needs.{needs}
-use Rattle.run.proofs.Front.{Front, front-none, front-length}
-use Rattle.sttd.specs.Outcome.{encodedOver}
-use lib.ListN.{length-set}
-use Rattle.sttd.proofs.Runs.{encoded-length, encoded-block, encoded-end}
+use Rattle.run.proofs.First.{none-first}
 use Rattle.sttd.proofs.encode.Statement.{statement}
 use Rattle.sttd.proofs.encode.Tie as tie
 
-abbrev Inv-loop : tie.InvT-loop
-Inv-loop input out₀ n end i₀ out i = (i % 4 ≡ 0) × (i ≤ end) × Front (encodedOver input out₀) out₀ out i
+first-above-requires : tie.Need-first-above-requires
+first-above-requires c κs = search needs
 
-abbrev μ-loop : tie.MeasureT-loop
-μ-loop input out₀ n end i₀ out i = end - i
+encode-digits-requires : tie.Need-encode-digits-requires
+encode-digits-requires c κs = none-first _ _ (rw (c .before .before .first-above .ensures) at (c .before .if1 .taken))
 
-shorter-requires : tie.Need-shorter-requires Inv-loop μ-loop
-shorter-requires c κs = search needs
+same-length : tie.Need-same-length
+same-length c = search needs
 
-mul-end : tie.Need-mul-end Inv-loop μ-loop
-mul-end c = omega arith
+returns : tie.Need-returns
+returns c = search needs
 
-loop-holds : tie.Need-loop-holds Inv-loop μ-loop
-loop-holds c = (refl, omega arith, front-none (encoded-length _ _))
+encode-any-requires : tie.Need-encode-any-requires
+encode-any-requires c κs = search needs
 
-shared-slice-read-b0 : tie.Need-shared-slice-read-b0 Inv-loop μ-loop
-shared-slice-read-b0 c = omega arith
+same-length-2 : tie.Need-same-length-2
+same-length-2 c = search needs
 
-add-b1 : tie.Need-add-b1 Inv-loop μ-loop
-add-b1 c = omega arith
-
-shared-slice-read-b1 : tie.Need-shared-slice-read-b1 Inv-loop μ-loop
-shared-slice-read-b1 c = omega arith
-
-add-b2 : tie.Need-add-b2 Inv-loop μ-loop
-add-b2 c = omega arith
-
-shared-slice-read-b2 : tie.Need-shared-slice-read-b2 Inv-loop μ-loop
-shared-slice-read-b2 c = omega arith
-
-add-b3 : tie.Need-add-b3 Inv-loop μ-loop
-add-b3 c = omega arith
-
-shared-slice-read-b3 : tie.Need-shared-slice-read-b3 Inv-loop μ-loop
-shared-slice-read-b3 c = omega arith
-
-bar-requires : tie.Need-bar-requires Inv-loop μ-loop
-bar-requires c κs = search needs
-
-slice-write-out : tie.Need-slice-write-out Inv-loop μ-loop
-slice-write-out c = omega (arith, front-length (c .before .before .before .before .before .before .loop .inv .2))
-
-add-out : tie.Need-add-out Inv-loop μ-loop
-add-out c = omega arith
-
-slice-write-out-2 : tie.Need-slice-write-out-2 Inv-loop μ-loop
-slice-write-out-2 c = simp length-set (omega (arith, front-length (c .before .before .before .before .before .before .loop .inv .2)))
-
-add-out-2 : tie.Need-add-out-2 Inv-loop μ-loop
-add-out-2 c = omega arith
-
-slice-write-out-3 : tie.Need-slice-write-out-3 Inv-loop μ-loop
-slice-write-out-3 c = simp length-set (omega (arith, front-length (c .before .before .before .before .before .before .loop .inv .2)))
-
-bar-requires-2 : tie.Need-bar-requires-2 Inv-loop μ-loop
-bar-requires-2 c κs = search needs
-
-add-out-3 : tie.Need-add-out-3 Inv-loop μ-loop
-add-out-3 c = omega arith
-
-slice-write-out-4 : tie.Need-slice-write-out-4 Inv-loop μ-loop
-slice-write-out-4 c = simp length-set (omega (arith, front-length (c .before .before .before .before .before .before .before .loop .inv .2)))
-
-add-i : tie.Need-add-i Inv-loop μ-loop
-add-i c = omega arith
-
-loop-less : tie.Need-loop-less Inv-loop μ-loop
-loop-less c = omega arith
-
-loop-again : tie.Need-loop-again Inv-loop μ-loop
-loop-again c =
-    let turn = c .before .before .before .before .before .before in
-    let head = turn .before in (
-      omega arith,
-      omega arith,
-      encoded-block _ _ (head .before .shorter .ensures) (head .loop .inv .0) (turn .loop-test .taken) (head .loop .inv .2) (c .before .bar .ensures) (c .bar2 .ensures),
-    )
-
-same-length : tie.Need-same-length Inv-loop μ-loop
-same-length c = front-length (c .before .loop .inv .2)
-
-returns : tie.Need-returns Inv-loop μ-loop
-returns c =
-    let head = c .before in
-    encoded-end _ _ (head .before .shorter .ensures) (omega arith) (head .loop .inv .2)
+returns-2 : tie.Need-returns-2
+returns-2 c = search needs
 
 pub encode-spec : {M : Type 1} → statement M
 encode-spec =
     tie.close
     (tie.spec
-    Inv-loop
-    μ-loop
-    shorter-requires
-    mul-end
-    loop-holds
-    shared-slice-read-b0
-    add-b1
-    shared-slice-read-b1
-    add-b2
-    shared-slice-read-b2
-    add-b3
-    shared-slice-read-b3
-    bar-requires
-    slice-write-out
-    add-out
-    slice-write-out-2
-    add-out-2
-    slice-write-out-3
-    bar-requires-2
-    add-out-3
-    slice-write-out-4
-    add-i
-    loop-less
-    loop-again
+    first-above-requires
+    encode-digits-requires
     same-length
-    returns)
+    returns
+    encode-any-requires
+    same-length-2
+    returns-2)
