@@ -1,5 +1,5 @@
 -- Four foldings are the sums over all signatures: a run that is folded side by side is one whose halves are folded, its places in another order. So the law of folded runs
--- (`folds-are-sums` of `signature`) gives these sums too.
+-- (`folds-at` of `signature`) gives these sums too.
 -- Assumes nothing.
 use mathlib.Core.Path.{_≡_, refl, sym, ap, ap₂, _∙_}
 use mathlib.Core.Bool.{Bool, true, false, cond}
@@ -169,7 +169,7 @@ folded-small {B} {x} p =
 pub sixteen-weaken : {A B : ℕ} {x : List ℤ} → A ≤ B → Sixteen A x → Sixteen B x
 sixteen-weaken l p = record { long = p .long; small = λ k h. b-weaken l (p .small k h) }
 
--- ---- one turn of the loop that folds, at either width: entries i and i + 8 are read, and their sum and difference stored
+-- ---- one turn of the loop that folds, at any width: entries i and i + 8 are read, and their sum and difference stored
 module _ (w : Width) (x : List ℤ) (B i : ℕ) (p : Sixteen B x) (room : B + B < 2 ^ hbits w) (h : i < 8) where
   first : Reads w (ofZ w (entry x i)) (entry x i) B
   first = r-in (p .small i (omega arith)) (omega arith)

@@ -2,18 +2,17 @@
 -- Assumes nothing.
 use mathlib.Core.Path.{_≡_, refl, sym, ap, ap₂, _∙_}
 use mathlib.Core.List.{List, _++_, append-nil}
-use borrow.Rule.Slice.PartMut.{midOf, putMid}
-use Prim.Native.Nat.{ℕ, zero, suc, _+_, _*_, _-_, _/_, _≤_, _<_, _^_, zero-le}
+use Prim.Native.Nat.{ℕ, zero, suc, _+_, _*_, _-_, _/_, _≤_, _<_, _^_}
 use native.Mathlib.Nat.{two-pow-succ, mul-add, add-mul, mul-le-mul-right}
 use native.Mathlib.Omega.{arith}
 use borrow.Author.Tests.{lt-ltb}
-use lib.Dec.{ltb}
-use lib.ListN.{length, getD, set, take, drop, take-append-drop, length-append, length-drop}
-use lib.Seq.{length-take-le, take-length, drop-length, take-at, drop-at, getD-take, getD-drop, getD-append-add, take-set-le, take-set-lt, drop-set-add, drop-set-lt}
+use borrow.Rule.Slice.PartMut.{midOf, putMid}
+use lib.ListN.{length, set, take, drop, take-append-drop, length-append, length-drop}
+use lib.Seq.{length-take-le, take-length, drop-length, take-at, drop-at, getD-take, getD-drop, take-set-le, take-set-lt, drop-set-add, drop-set-lt}
 use lib.IntN.{ℤ, pos, _+ℤ_, _-ℤ_}
 use mir.Syntax.{w64}
 use mir.Val.{SFits, toZ, ofZ}
-use Rattle.run.proofs.Front.{Front, front-none, front-store, front-all, front-length}
+use Rattle.run.proofs.Front.{Front, front-none, front-length, front-next, front-store, front-all}
 use Rattle.whole.specs.Bound.{Bounded}
 use Rattle.whole.proofs.Bound.{b-sum, b-diff}
 use Rattle.whole.proofs.Bits.{Reads, r-in, fits-sum, r-sum, fits-diff, r-diff}
@@ -27,16 +26,6 @@ use Rattle.correlator.specs.Method.{halvings, depth, Room, Halves}
 pub record Level (h : ℕ) (x d : List ℤ) (k : ℕ) : Type 0 where
   pub low : Front (sums h x) (take h x) (take h d) k
   pub high : Front (differences h x) (drop h x) (drop h d) k
-
-front-next : {t d₀ d : List ℤ} {a : ℕ} → Front t d₀ d a → a < length d₀ → entry d a ≡ entry d₀ a
-front-next {t} {d₀} {d} {a} f h =
-    let e = f .sized in
-    let n : length (take a t) ≡ a = length-take-le a t (omega arith) in
-    let end : a + 0 ≡ a = omega arith in
-    ap (λ (y : List ℤ). entry y a) (f .is)
-    ∙ rw (n, end) at (getD-append-add (take a t) (drop a d₀) 0 (pos 0))
-    ∙ getD-drop a d₀ 0 (pos 0)
-    ∙ ap (entry d₀) end
 
 module _ (h : ℕ) (x : List ℤ) (p : Halves h x) where
   lower : length (take h x) ≡ h
@@ -55,10 +44,10 @@ module _ (h : ℕ) (x : List ℤ) (p : Halves h x) where
 
   module _ (d : List ℤ) (k : ℕ) (v : Level h x d k) (l : k < h) where
     low-left : entry d k ≡ entry x k
-    low-left = sym (getD-take h d k (pos 0) l) ∙ front-next (v .low) (rw lower l) ∙ getD-take h x k (pos 0) l
+    low-left = sym (getD-take h d k (pos 0) l) ∙ front-next (pos 0) (v .low) (rw lower l) ∙ getD-take h x k (pos 0) l
 
     high-left : entry d (h + k) ≡ entry x (h + k)
-    high-left = sym (getD-drop h d k (pos 0)) ∙ front-next (v .high) (rw upper l) ∙ getD-drop h x k (pos 0)
+    high-left = sym (getD-drop h d k (pos 0)) ∙ front-next (pos 0) (v .high) (rw upper l) ∙ getD-drop h x k (pos 0)
 
     first : Reads w64 (ofZ w64 (entry d k)) (entry x k) (p .bound)
     first = rw low-left (r-in (p .small k (omega arith)) (omega (arith, p .fits)))
@@ -230,7 +219,7 @@ module _ {x l : List ℤ} (c : Levelled x l) where
       ∙ folds-both x (c .room) (c .big)
 
   -- the first half is lent, and f comes back
-  pub first-part : take h l ≡ a
+  first-part : take h l ≡ a
   first-part = rw (c .is) (take-at a b h (sums-length h x))
 
   behind-first : drop h l ≡ b

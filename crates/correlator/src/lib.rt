@@ -129,7 +129,8 @@ fn level(s: &mut [i64], h: usize)
     }
 }
 
-// Halves the run and folds each half again, until the halves have one number each. The depth is the logarithm of the length.
+// Halves the run and folds each half again, until a half is one number: a call for each of those would be half of all calls. Calls are nested as deep as the
+// logarithm of the length.
 fn fold(s: &mut [i64])
     requires { ⌜ Room (now s) ⌝ }
     ensures { λ _. ⌜ now (s .exit) ≡ folds (depth (now (s .entry))) (now (s .entry)) ⌝ }

@@ -13,7 +13,7 @@ use lib.Count.{ones, ones-cat}
 use lib.Dec.{eqb, ltb}
 use lib.ListN.{length, getD, length-append, List·getD-append}
 use lib.Seq.{getD-append-add}
-use lib.IntN.{ℤ, pos, negsuc, negℤ, _+ℤ_, _-ℤ_, _*ℤ_, +ℤ-idl, *ℤ-comm}
+use lib.IntN.{ℤ, pos, negsuc, _+ℤ_, _-ℤ_, _*ℤ_, +ℤ-idl, *ℤ-comm}
 use Rattle.run.proofs.Table.{tab-length, tab-at, tab-is}
 use Rattle.whole.specs.Sum.{sum}
 use Rattle.whole.proofs.Laws.{distrib-r, factors, one-*ℤ, minus-one-*ℤ}
@@ -27,18 +27,18 @@ entry x k = getD x k (pos 0)
 -- ---- parity
 
 -- the sign of a count of bits
-signOf : ℕ → ℤ
-signOf c = cond (eqb (c % 2) 0) (pos 1) (negsuc 0)
+countSign : ℕ → ℤ
+countSign c = cond (eqb (c % 2) 0) (pos 1) (negsuc 0)
 
-parity-is : (s k : ℕ) → parity s k ≡ signOf (ones (bitAnd s k))
-unfolding sign isPlus signOf
+parity-is : (s k : ℕ) → parity s k ≡ countSign (ones (bitAnd s k))
+unfolding sign isPlus countSign
 parity-is s k = let half : 2 * k / 2 ≡ k = omega arith in rw half
 
-sign-sum : (a b : ℕ) → signOf (a + b) ≡ signOf a *ℤ signOf b
-unfolding signOf
+sign-sum : (a b : ℕ) → countSign (a + b) ≡ countSign a *ℤ countSign b
+unfolding countSign
 sign-sum a b = side (eqb (a % 2) 0) (eqb (b % 2) 0) refl refl
   where
-    side : (p q : Bool) → eqb (a % 2) 0 ≡ p → eqb (b % 2) 0 ≡ q → signOf (a + b) ≡ cond p (pos 1) (negsuc 0) *ℤ cond q (pos 1) (negsuc 0)
+    side : (p q : Bool) → eqb (a % 2) 0 ≡ p → eqb (b % 2) 0 ≡ q → countSign (a + b) ≡ cond p (pos 1) (negsuc 0) *ℤ cond q (pos 1) (negsuc 0)
     side true true e f = rw (eq-eqb ((a + b) % 2) 0 (omega (arith, eqb-true (a % 2) 0 e, eqb-true (b % 2) 0 f)))
     side true false e f = rw (ne-eqb ((a + b) % 2) 0 (λ z. omega (arith, eqb-true (a % 2) 0 e, eqb-false (b % 2) 0 f)))
     side false true e f = rw (ne-eqb ((a + b) % 2) 0 (λ z. omega (arith, eqb-false (a % 2) 0 e, eqb-true (b % 2) 0 f)))
@@ -49,8 +49,8 @@ module _ (n a s k : ℕ) (h : s < 2 ^ n) (l : k < 2 ^ n) where
   parity-block : (b : ℕ) → parity (a * 2 ^ n + s) (b * 2 ^ n + k) ≡ parity a b *ℤ parity s k
   parity-block b =
       parity-is (a * 2 ^ n + s) (b * 2 ^ n + k)
-      ∙ ap (λ (m : ℕ). signOf (ones m)) (and-block n a b s k h l)
-      ∙ ap signOf (ones-cat n (bitAnd a b) (bitAnd s k) (and-lt n s k h l))
+      ∙ ap (λ (m : ℕ). countSign (ones m)) (and-block n a b s k h l)
+      ∙ ap countSign (ones-cat n (bitAnd a b) (bitAnd s k) (and-lt n s k h l))
       ∙ sign-sum (ones (bitAnd a b)) (ones (bitAnd s k))
       ∙ sym (ap₂ (λ (y z : ℤ). y *ℤ z) (parity-is a b) (parity-is s k))
 
