@@ -1,7 +1,8 @@
 /* calls.c: one line for each call of slt.h, with the numbers and runs of a test in their places. */
+#include "calls.h"
+
 #include <string.h>
 
-#include "fuzz.h"
 #include "slt.h"
 
 static uint8_t *digits(const struct test *t, size_t i) {

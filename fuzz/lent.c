@@ -6,13 +6,16 @@
  * page of a run that must stay as it is may not be written at all: not even with what it holds, or for a moment. */
 #define _DEFAULT_SOURCE /* MAP_ANONYMOUS and syscall */
 
+#include "lent.h"
+
+#include <stdbool.h>
 #include <stdlib.h>
 #include <string.h>
 #include <sys/mman.h>
 #include <sys/syscall.h>
 #include <unistd.h>
 
-#include "fuzz.h"
+#include "say.h"
 
 #define PAGE ((size_t)4096)
 

@@ -1,7 +1,8 @@
 //! A case of each call but those of DPCH.
 
-use crate::case::{Case, HUGE};
-use crate::draw::{Draw, Room};
+use crate::case::Case;
+use crate::draw::Draw;
+use crate::lent::{HUGE, Room};
 use second::answer::{Answer, Refusal};
 use second::rules::sample::{Setting, VALUE_LIMIT, sample};
 use second::rules::{aich, combiner, pccpch, pich, sttd};

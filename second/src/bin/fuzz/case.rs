@@ -6,7 +6,7 @@
 //!
 //! How many numbers and runs there are, and how wide the elements, depends on the call alone.
 
-use crate::draw::{Held, Room};
+use crate::lent::{Element, HUGE, Held, Room};
 use second::answer::{Answer, Refusal};
 use second::rules::sample::Sample;
 
@@ -16,32 +16,6 @@ const WRITTEN: u8 = 1;
 const KEPT: u8 = 2;
 const NULL: u8 = 3;
 const HUGE_ROOM: u8 = 4;
-
-/// From so many elements on a room is huge.
-pub const HUGE: usize = 1 << 32;
-
-/// What a run is made of.
-pub trait Element: Copy + Default {
-    fn put(self, bytes: &mut Vec<u8>);
-}
-
-impl Element for u8 {
-    fn put(self, bytes: &mut Vec<u8>) {
-        bytes.push(self);
-    }
-}
-
-impl Element for i32 {
-    fn put(self, bytes: &mut Vec<u8>) {
-        bytes.extend(self.to_le_bytes());
-    }
-}
-
-impl Element for i64 {
-    fn put(self, bytes: &mut Vec<u8>) {
-        bytes.extend(self.to_le_bytes());
-    }
-}
 
 /// A case that is put together: its numbers, its runs, and at last what the rules say.
 pub struct Case {

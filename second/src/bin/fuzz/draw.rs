@@ -1,7 +1,7 @@
 //! Draws what a call is given. Everything begins good; then some of it is spoilt. So many cases come far into a call,
 //! and every check of it meets faults before and behind it.
 
-use crate::case::{Element, HUGE};
+use crate::lent::{Element, HUGE, Held, Room};
 use second::random::{Random, mixed};
 use second::rules::sample::LEVELS;
 
@@ -30,21 +30,6 @@ const SOME: usize = 4000;
 
 /// Where a run is put: on the heap, right before a forbidden page, or right behind one.
 const PLACES: [u8; 4] = [0, 1, 1, 2];
-
-/// A run that is read. It is never huge: a call may look at all of it before it refuses its length. NULL goes with length
-/// 0 only.
-pub struct Held<T> {
-    pub run: Vec<T>,
-    pub null: bool,
-    pub place: u8,
-}
-
-/// A run that may be written. It may be huge: nobody looks at what it holds, so no memory need stand behind it.
-pub struct Room {
-    pub length: usize,
-    pub null: bool,
-    pub place: u8,
-}
 
 pub struct Draw {
     pub random: Random,

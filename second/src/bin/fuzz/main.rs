@@ -14,6 +14,7 @@ mod calls;
 mod case;
 mod dpch;
 mod draw;
+mod lent;
 
 use case::Case;
 use draw::Draw;

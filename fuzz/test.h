@@ -1,9 +1,8 @@
-/* fuzz.h: a fuzz run of the mapper's C calls. The second program draws the cases and says what each must answer
+/* test.h: what a test of a C call is. The second program draws the cases and says what each must answer
  * (second/src/bin/fuzz); here they are made, in memory where a stray access shows, and compared. No rule stands here. */
-#ifndef FUZZ_H
-#define FUZZ_H
+#ifndef TEST_H
+#define TEST_H
 
-#include <stdbool.h>
 #include <stddef.h>
 #include <stdint.h>
 
@@ -47,24 +46,12 @@ struct test {
     struct sample_bits expected_sample, got_sample;
 };
 
-/* calls.c: the calls of slt.h, in its order. */
+/* A call of slt.h. */
 struct call {
     const char *name;
     size_t numbers;
     const char *sizes; /* a digit for each run: the bytes of an element */
     void (*make)(struct test *test);
 };
-
-extern const struct call calls[];
-extern const size_t n_calls;
-
-/* lent.c: the memory that runs are put in. */
-void prepare_memory(void);
-void lend(struct run *run, size_t index, uint64_t salt);
-/* Takes the memory back. Answers what is wrong with it, or NULL; then *at is the byte, counted from the run's first. */
-const char *take_back(struct run *run, uint64_t salt, ptrdiff_t *at);
-
-/* fuzz.c */
-_Noreturn void give_up(const char *why);
 
 #endif
