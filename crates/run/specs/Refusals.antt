@@ -53,3 +53,7 @@ gainsRefused = 12
 -- 13: bad job file
 abbrev pub jobRefused : ℕ
 jobRefused = 13
+
+-- 26: a nonzero indicator of a signature that is not available
+abbrev pub signatureRefused : ℕ
+signatureRefused = 26

@@ -26,3 +26,5 @@ pub const RANGE: usize = 11;
 pub const GAINS: usize = 12;
 // 13: bad job file.
 pub const JOB: usize = 13;
+// 26: a nonzero indicator of a signature that is not available.
+pub const SIGNATURE: usize = 26;
