@@ -6,7 +6,7 @@ LIB = target/staticlib/libslt.a
 SLOTLINE = target/bin/slotline
 SECOND = target/second/release
 
-.PHONY: test steps lib slotline run fmt audit judges second jobs cases host fuzz install package bench clean
+.PHONY: test steps lib slotline run fmt audit judges second jobs cases host fuzz install package bench bench-programs bench-table clean
 
 # What the steps stand on is proved first, then the steps go two at a time, the output of each in one piece. rt ci comes last: it proves every crate from
 # nothing, tries every must-fail edit, and prints the verdict. It starts four checks at a time, so that two cores stay busy while one waits for its fellows.
@@ -102,14 +102,25 @@ package: lib slotline
 	$(MAKE) --no-print-directory -o lib -o slotline install DESTDIR= PREFIX=$(INSTALLED)
 	sh packaging/try.sh $(INSTALLED) target/outside
 
-# Ratios to plain C and to memcpy, in one run. Not a test: nothing fails by its numbers. The program slotline is timed
-# against a program of its own in plain C.
-PLAIN_PROGRAM = bench/plain_slotline.c
-bench: lib slotline
-	mkdir -p target/bench
-	$(CC) -std=c11 -O3 -Wall -Wextra -Werror -Ibench $(PLAIN_PROGRAM) bench/plain_dpch.c bench/plain_aich.c -o target/bench/plain_slotline
-	$(CC) -std=c11 -O3 -Wall -Wextra -Werror -Iinclude -Ibench $(filter-out $(PLAIN_PROGRAM),$(wildcard bench/*.c)) $(LIB) -o target/bench/bench
-	target/bench/bench $(SLOTLINE) target/bench/plain_slotline
+# Ratios to plain C, to tight C and to memcpy, in one run. It fails where the library and the C beside it answer or write anything that is not the
+# same; nothing fails by its numbers. The program slotline is timed against programs of its own.
+BENCH = target/bench
+BENCH_CC = $(CC) -std=c11 -O3 -Wall -Wextra -Werror -Iinclude -Ibench
+YARDSTICKS = $(filter-out %_slotline.c,$(wildcard bench/plain_*.c bench/tight_*.c))
+TIMED = $(filter-out bench/plain_%.c bench/tight_%.c,$(wildcard bench/*.c))
+bench-programs: lib slotline
+	mkdir -p $(BENCH)
+	for whose in plain tight; do $(BENCH_CC) bench/$${whose}_slotline.c $(YARDSTICKS) -o $(BENCH)/$${whose}_slotline || exit 1; done
+	$(BENCH_CC) $(TIMED) $(YARDSTICKS) $(LIB) -lm -o $(BENCH)/bench
+
+RUN_BENCH = $(BENCH)/bench $(SLOTLINE) $(BENCH)/tight_slotline $(BENCH)/plain_slotline
+bench: bench-programs
+	$(RUN_BENCH)
+
+# The table of docs/SPEED.md: medians of nine runs, with the least and the greatest seen.
+RUNS = 9
+bench-table: bench-programs
+	python3 bench/table.py $(RUNS) $(RUN_BENCH)
 
 clean:
 	rm -rf target

@@ -1,63 +1,78 @@
 /* AICH values mapped, read, and combined from two antennas. */
-#include "bench.h"
+#include "aich.h"
+#include "draw.h"
+#include "row.h"
+#include "yardsticks.h"
 
-#include "plain.h"
-#include "slt.h"
-
-enum { SIGNATURES = 16, VALUES = 32, SETS = 8 };
-
-/* Several sets of each input: they move on from call to call. */
+/* All inputs move on from call to call. */
 struct aich_row {
-    int32_t indicators[SETS][SIGNATURES], values[SETS][VALUES], received[SETS][VALUES];
-    int32_t values_out[VALUES], indicators_back[SIGNATURES];
-    int64_t results[SIGNATURES];
+    size_t n_indicators, n_values, n_results;
+    int64_t gains[SETS][4], results[SIGNATURES + 1];
+    int32_t indicators[SETS][SIGNATURES + 1], values[SETS][VALUES + 1], received[SETS][VALUES + 1];
+    int32_t values_out[VALUES + 1], indicators_back[SIGNATURES + 1];
 };
 
-#define MAP(NAME, CALL)                                                                                                \
-    static uint64_t NAME(void *context, size_t times) {                                                                \
-        struct aich_row *r = context;                                                                                  \
-        uint64_t sum = 0;                                                                                              \
-        for (size_t i = 0; i < times; i++) {                                                                           \
-            sum += CALL(r->indicators[i % SETS], SIGNATURES, r->values_out, VALUES);                                   \
-        }                                                                                                              \
-        return sum + (uint64_t)r->values_out[0];                                                                       \
-    }
+WAYS(aich_map, aich_row, r->indicators[i % SETS], r->n_indicators, r->values_out, r->n_values)
+WAYS(aich_read, aich_row, r->values[i % SETS], r->n_values, r->indicators_back, r->n_indicators)
+WAYS(aich_combine, aich_row, r->gains[i % SETS][0], r->gains[i % SETS][1], r->gains[i % SETS][2], r->gains[i % SETS][3],
+     r->received[i % SETS], r->n_values, r->results, r->n_results)
 
-#define READ(NAME, CALL)                                                                                               \
-    static uint64_t NAME(void *context, size_t times) {                                                                \
-        struct aich_row *r = context;                                                                                  \
-        uint64_t sum = 0;                                                                                              \
-        for (size_t i = 0; i < times; i++) {                                                                           \
-            sum += CALL(r->values[i % SETS], VALUES, r->indicators_back, SIGNATURES);                                  \
-        }                                                                                                              \
-        return sum + (uint64_t)r->indicators_back[0];                                                                  \
-    }
+static void draw_run(int32_t *s, size_t n, int32_t limit) {
+    for (size_t i = 0; i < n; i++) s[i] = draw_value(limit);
+}
 
-#define COMBINE(NAME, CALL)                                                                                            \
-    static uint64_t NAME(void *context, size_t times) {                                                                \
-        struct aich_row *r = context;                                                                                  \
-        uint64_t sum = 0;                                                                                              \
-        for (size_t i = 0; i < times; i++) {                                                                           \
-            sum += CALL(1 + (int64_t)(i % 5), -1020, 33, 7, r->received[i % SETS], VALUES, r->results, SIGNATURES);    \
-        }                                                                                                              \
-        return sum + (uint64_t)r->results[0];                                                                          \
-    }
+static void draw_lengths(struct aich_row *r) {
+    r->n_indicators = damaged_length(SIGNATURES);
+    r->n_values = damaged_length(VALUES);
+    r->n_results = damaged_length(SIGNATURES);
+}
 
-MAP(map_library, slt_aich_map)
-MAP(map_plain, plain_aich_map)
-READ(read_library, slt_aich_read)
-READ(read_plain, plain_aich_read)
-COMBINE(combine_library, slt_aich_combine)
-COMBINE(combine_plain, plain_aich_combine)
+static void draw_map(void *context, size_t choice) {
+    struct aich_row *r = context;
+    (void)choice;
+    draw_lengths(r);
+    for (size_t i = 0; i < SETS; i++) draw_run(r->indicators[i], SIGNATURES, 1);
+    damage_values(r->indicators[0], SIGNATURES);
+}
+
+/* Some pairs are moved as a whole: what they then hold only the sums can refuse. */
+static void draw_read(void *context, size_t choice) {
+    struct aich_row *r = context;
+    (void)choice;
+    draw_lengths(r);
+    for (size_t i = 0; i < SETS; i++) {
+        draw_run(r->indicators[i], SIGNATURES, 1);
+        slt_aich_map(r->indicators[i], SIGNATURES, r->values[i], VALUES);
+    }
+    damage_values(r->values[0], VALUES);
+    size_t pair = 2 * draw_below(SIGNATURES);
+    if (damaged_number(0) != 0) r->values[0][pair] = r->values[0][pair + 1] = draw_value(17);
+}
+
+static void draw_combine(void *context, size_t choice) {
+    struct aich_row *r = context;
+    (void)choice;
+    draw_lengths(r);
+    for (size_t i = 0; i < SETS; i++) {
+        for (size_t part = 0; part < 4; part++) {
+            r->gains[i][part] = damaged_value(draw_value(GAIN_LIMIT), GAIN_LIMIT);
+        }
+        draw_run(r->received[i], VALUES, RECEIVED_LIMIT);
+    }
+    if (damaged_number(0) != 0) r->gains[0][0] = r->gains[0][1] = r->gains[0][2] = r->gains[0][3] = 0;
+    damage_values(r->received[0], VALUES);
+}
+
+static struct aich_row context;
+
+#define ROW(NAME, WAYS, DRAW) {NAME, WAYS, DRAW, &context, sizeof context, 0, VALUES * sizeof(int32_t)}
+
+static const struct row ROWS[] = {
+    ROW("AICH map", &aich_map, draw_map),
+    ROW("AICH read", &aich_read, draw_read),
+    ROW("AICH combine", &aich_combine, draw_combine),
+};
 
 void bench_aich(void) {
-    static struct aich_row r;
-    for (size_t set = 0; set < SETS; set++) {
-        for (size_t s = 0; s < SIGNATURES; s++) r.indicators[set][s] = (int32_t)((s * 7 + set * 5) % 11 % 3) - 1;
-        for (size_t i = 0; i < VALUES; i++) r.received[set][i] = (int32_t)((i * 7919 + set * 31) % 2001) - 1000;
-        slt_aich_map(r.indicators[set], SIGNATURES, r.values[set], VALUES);
-    }
-    bench_row("AICH map", map_library, map_plain, &r, sizeof r.values_out);
-    bench_row("AICH read", read_library, read_plain, &r, sizeof r.values_out);
-    bench_row("AICH combine", combine_library, combine_plain, &r, sizeof r.values_out);
+    bench_rows(ROWS, sizeof ROWS / sizeof ROWS[0]);
 }

@@ -1,48 +1,50 @@
 /* The P-CCPCH frame on two antennas, mapped and read. */
-#include "bench.h"
+#include "draw.h"
+#include "pccpch.h"
+#include "row.h"
+#include "yardsticks.h"
 
-#include "plain.h"
-#include "slt.h"
-
-enum { DATA = 270, FRAME = 300 };
-
-/* Two sets of data: they move on from call to call. */
+/* The data moves on from call to call. */
 struct pccpch_row {
-    uint8_t data[2][DATA], antenna1[FRAME], antenna2[FRAME], data_back[DATA];
+    size_t n_data, n1, n2;
+    uint8_t data[SETS][DATA + 1], antenna1[FRAME + 1], antenna2[FRAME + 1], data_back[DATA + 1];
 };
 
-#define MAP(NAME, CALL)                                                                                                \
-    static uint64_t NAME(void *context, size_t times) {                                                                \
-        struct pccpch_row *r = context;                                                                                \
-        uint64_t sum = 0;                                                                                              \
-        for (size_t i = 0; i < times; i++) {                                                                           \
-            sum += CALL(r->data[i & 1], DATA, r->antenna1, FRAME, r->antenna2, FRAME);                                 \
-        }                                                                                                              \
-        return sum + r->antenna1[2] + r->antenna2[2];                                                                  \
-    }
+WAYS(pccpch_map, pccpch_row, r->data[i % SETS], r->n_data, r->antenna1, r->n1, r->antenna2, r->n2)
+WAYS(pccpch_read, pccpch_row, r->antenna1, r->n1, r->antenna2, r->n2, r->data_back, r->n_data)
 
-#define READ(NAME, CALL)                                                                                               \
-    static uint64_t NAME(void *context, size_t times) {                                                                \
-        struct pccpch_row *r = context;                                                                                \
-        uint64_t sum = 0;                                                                                              \
-        for (size_t i = 0; i < times; i++) {                                                                           \
-            sum += CALL(r->antenna1, FRAME, r->antenna2, FRAME, r->data_back, DATA);                                   \
-        }                                                                                                              \
-        return sum + r->data_back[0];                                                                                  \
-    }
+static void draw_data(struct pccpch_row *r) {
+    r->n_data = damaged_length(DATA);
+    r->n1 = damaged_length(FRAME);
+    r->n2 = damaged_length(FRAME);
+    for (size_t i = 0; i < SETS; i++) draw_digits(r->data[i], DATA, 2);
+}
 
-MAP(map_library, slt_pccpch_map)
-MAP(map_plain, plain_pccpch_map)
-READ(read_library, slt_pccpch_read)
-READ(read_plain, plain_pccpch_read)
+static void draw_map(void *context, size_t choice) {
+    struct pccpch_row *r = context;
+    (void)choice;
+    draw_data(r);
+    damage_digits(r->data[0], DATA);
+}
+
+static void draw_read(void *context, size_t choice) {
+    struct pccpch_row *r = context;
+    (void)choice;
+    draw_data(r);
+    slt_pccpch_map(r->data[0], DATA, r->antenna1, FRAME, r->antenna2, FRAME);
+    damage_digits(r->antenna1, FRAME);
+    damage_digits(r->antenna2, FRAME);
+    damage_digits(r->antenna1 + SLOT * draw_below(SLOTS), 2);
+    damage_digits(r->antenna2 + SLOT * draw_below(SLOTS), 2);
+}
+
+static struct pccpch_row context;
+
+static const struct row ROWS[] = {
+    {"P-CCPCH map", &pccpch_map, draw_map, &context, sizeof context, 0, 2 * FRAME},
+    {"P-CCPCH read", &pccpch_read, draw_read, &context, sizeof context, 0, 2 * FRAME},
+};
 
 void bench_pccpch(void) {
-    static struct pccpch_row r;
-    for (size_t d = 0; d < DATA; d++) {
-        r.data[0][d] = (uint8_t)(d * 7 % 3 & 1);
-        r.data[1][d] = (uint8_t)(d * 5 % 7 & 1);
-    }
-    bench_row("P-CCPCH map", map_library, map_plain, &r, sizeof r.antenna1 + sizeof r.antenna2);
-    slt_pccpch_map(r.data[0], DATA, r.antenna1, FRAME, r.antenna2, FRAME);
-    bench_row("P-CCPCH read", read_library, read_plain, &r, sizeof r.antenna1 + sizeof r.antenna2);
+    bench_rows(ROWS, sizeof ROWS / sizeof ROWS[0]);
 }

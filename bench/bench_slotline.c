@@ -1,8 +1,6 @@
-/* The program slotline on the longest job, against the same program in plain C. Both are started the same way, with the
- * job as standard input and nothing kept of what they print: what is timed is start, reading, mapping and printing. */
+/* The program slotline on the longest job, against the same program in C. All are started the same way, with the job as standard
+ * input and nothing kept of what they print: what is timed is start, reading, mapping and printing. */
 #define _POSIX_C_SOURCE 200809L
-#include "bench.h"
-
 #include <fcntl.h>
 #include <spawn.h>
 #include <stdio.h>
@@ -11,70 +9,26 @@
 #include <sys/wait.h>
 #include <unistd.h>
 
-#include "plain_slot.h"
+#include "draw.h"
+#include "job.h"
+#include "row.h"
+#include "rows.h"
 
 extern char **environ;
 
-enum { LONGEST = 65535, HEADER = 6, AICH_RECORD = 17, ROUNDS = 400 };
+enum { CASES = 60, ROUNDS = 400, PROGRAMS = 3, LONGEST_TEXT = 1 << 19 };
 
-static uint8_t job[LONGEST];
-static size_t used;
+static uint8_t job[JOB_BYTES];
 
-static void put(uint8_t byte) {
-    job[used++] = byte;
+static _Noreturn void fail(const char *why, const char *of) {
+    fprintf(stderr, "bench: %s %s\n", why, of);
+    exit(1);
 }
 
-static void put_aich(void) {
-    put(1);
-    for (unsigned s = 0; s < 16; s++) put((uint8_t)((used + s) % 3));
-}
-
-static void put_pich(void) {
-    put(2);
-    put(144);
-    for (unsigned q = 0; q < 144; q++) put((uint8_t)(q * 5 % 2));
-}
-
-static size_t dpch_record(size_t format) {
-    return (size_t)4 + FORMATS[format].tfci + FORMATS[format].data1 + FORMATS[format].data2;
-}
-
-static void put_dpch(size_t format) {
-    size_t n_tfci = FORMATS[format].tfci, n_data = dpch_record(format) - 4 - n_tfci;
-    put(3);
-    put((uint8_t)format);
-    put((uint8_t)(used % 15));
-    put((uint8_t)(used % 2));
-    for (size_t i = 0; i < n_tfci; i++) put((uint8_t)(i & 1));
-    for (size_t i = 0; i < n_data; i++) put((uint8_t)(i * 7 % 3));
-}
-
-/* A mix of all kinds and formats, then the longest formats that leave room for seven records of AICH, and at the end as
- * many of AICH and of format 0 (17 and 8 bytes) as fill the file to its last byte. */
-static void make_job(void) {
-    unsigned count = 0;
-    memcpy(job, "SLT\0\1", 5);
-    used = HEADER;
-    for (size_t format = 0; format <= 16; format++, count += 3) {
-        put_aich();
-        put_pich();
-        put_dpch(format);
-    }
-    for (size_t format = 17; format-- > 0;) {
-        for (; dpch_record(format) + 7 * AICH_RECORD <= LONGEST - used; count++) put_dpch(format);
-    }
-    for (; (LONGEST - used) % dpch_record(0) != 0; count++) put_aich();
-    for (; used < LONGEST; count++) put_dpch(0);
-    job[HEADER - 1] = (uint8_t)count;
-}
-
-/* The first bytes of the job as a file that is gone when the benchmark ends. */
-static FILE *job_file(size_t bytes) {
+/* A file that is gone when the benchmark ends. */
+static FILE *file_of(const uint8_t *bytes, size_t n) {
     FILE *file = tmpfile();
-    if (file == NULL || fwrite(job, 1, bytes, file) != bytes || fflush(file) != 0) {
-        perror("bench: no temporary file");
-        exit(1);
-    }
+    if (file == NULL || fwrite(bytes, 1, n, file) != n || fflush(file) != 0) fail("no temporary file", "");
     return file;
 }
 
@@ -93,33 +47,62 @@ static double run_ns(const char *program, FILE *in, int out) {
                  waitpid(child, &status, 0) != child || !WIFEXITED(status) || WEXITSTATUS(status) != 0;
     double took = now_ns() - begin;
     posix_spawn_file_actions_destroy(&actions);
-    if (failed) {
-        fprintf(stderr, "bench: %s did not end well\n", program);
-        exit(1);
-    }
+    if (failed) fail("did not end well:", program);
     return took;
 }
 
-static void row(const char *name, const char *slotline, const char *plain, size_t bytes) {
-    double best_slotline = 1e18, best_plain = 1e18;
-    FILE *in = job_file(bytes);
+/* What the program prints. */
+static size_t text_of(const char *program, FILE *in, char *text) {
+    FILE *out = file_of(job, 0);
+    run_ns(program, in, fileno(out));
+    rewind(out);
+    size_t n = fread(text, 1, LONGEST_TEXT, out);
+    fclose(out);
+    return n;
+}
+
+/* The job, and jobs that are damaged or cut, must give the same text. */
+static void compare(const char *const programs[PROGRAMS]) {
+    static uint8_t damaged[JOB_BYTES];
+    static char text[LONGEST_TEXT], other[LONGEST_TEXT];
+    draw_from(1);
+    for (unsigned k = 0; k < CASES; k++) {
+        memcpy(damaged, job, sizeof job);
+        draw_damage(k > 0);
+        damage_digits(damaged, sizeof job);
+        damage_digits(damaged, JOB_HEADER);
+        FILE *in = file_of(damaged, k % 4 == 1 ? draw_below(sizeof job) : sizeof job);
+        size_t n = text_of(programs[0], in, text);
+        for (size_t p = 1; p < PROGRAMS; p++) {
+            if (text_of(programs[p], in, other) != n || memcmp(text, other, n) != 0) {
+                fail("DIFFERENCE: slotline prints another text than", programs[p]);
+            }
+        }
+        fclose(in);
+    }
+}
+
+static void row(const char *name, const char *const programs[PROGRAMS], size_t bytes) {
+    double best[PROGRAMS] = {1e18, 1e18, 1e18};
+    FILE *in = file_of(job, bytes);
     int out = open("/dev/null", O_WRONLY);
     for (int round = 0; round < ROUNDS; round++) {
-        double a = run_ns(slotline, in, out);
-        double b = run_ns(plain, in, out);
-        if (a < best_slotline) best_slotline = a;
-        if (b < best_plain) best_plain = b;
+        for (size_t p = 0; p < PROGRAMS; p++) {
+            double took = run_ns(programs[p], in, out);
+            if (took < best[p]) best[p] = took;
+        }
     }
     close(out);
     fclose(in);
-    printf("%-28s %6.2f times plain C  %23s (%.0f ns, plain C %.0f ns)\n", name, best_slotline / best_plain, "",
-           best_slotline, best_plain);
+    print_row(name, best[0], best[1], best[2], 0);
 }
 
 /* The second row is a job of no records: it shows how much of the first is the start of a program. */
-void bench_slotline(const char *slotline, const char *plain) {
-    make_job();
-    row("slotline, 65535 bytes", slotline, plain, sizeof job);
-    job[HEADER - 1] = 0;
-    row("slotline, no records", slotline, plain, HEADER);
+void bench_slotline(const char *slotline, const char *tight, const char *plain) {
+    const char *const programs[PROGRAMS] = {slotline, tight, plain};
+    make_job(job);
+    compare(programs);
+    row("slotline, 65535 bytes", programs, sizeof job);
+    job[JOB_HEADER - 1] = 0;
+    row("slotline, no records", programs, JOB_HEADER);
 }

@@ -1,14 +1,14 @@
 /* DPCH slots in plain C. */
-#include "plain.h"
+#include "yardsticks.h"
 
-#include "plain_slot.h"
+#include "plain_dpch.h"
 
 uint64_t plain_slot_map(size_t format, size_t slot, size_t tpc, const uint8_t *data, size_t n_data, const uint8_t *tfci,
                         size_t n_tfci, uint8_t *out, size_t n_out) {
     if (format > 16) return refuse(1, 0);
     if (slot > 14) return refuse(2, 0);
     const struct format *f = &FORMATS[format];
-    if (n_data != (size_t)f->data1 + f->data2) return refuse(3, 0);
+    if (n_data != data_of(f)) return refuse(3, 0);
     if (n_tfci != f->tfci) return refuse(3, 1);
     if (n_out != f->slot) return refuse(3, 2);
     uint64_t refusal = check_fields(format, 0, tpc, data, tfci);
@@ -23,7 +23,7 @@ uint64_t plain_slot_read(size_t format, size_t slot, const uint8_t *run, size_t 
     if (slot > 14) return refuse(2, 0);
     const struct format *f = &FORMATS[format];
     if (n_run != f->slot) return refuse(3, 0);
-    if (n_data != (size_t)f->data1 + f->data2) return refuse(3, 1);
+    if (n_data != data_of(f)) return refuse(3, 1);
     if (n_tfci != f->tfci) return refuse(3, 2);
     uint64_t refusal = check_slot(format, slot, run, 0);
     if (refusal) return refusal;

@@ -1,15 +1,13 @@
 /* DPCH frames in plain C: slots 0 to 14 of one format. All slots are checked before the first is written. */
-#include "plain.h"
+#include "yardsticks.h"
 
-#include "plain_slot.h"
-
-enum { SLOTS = 15 };
+#include "plain_dpch.h"
 
 uint64_t plain_frame_map(size_t format, const uint8_t *data, size_t n_data, const uint8_t *tfci, size_t n_tfci,
                          uint8_t *out, size_t n_out, const uint8_t *commands, size_t n_commands) {
     if (format > 16) return refuse(1, 0);
     const struct format *f = &FORMATS[format];
-    size_t slot_data = (size_t)f->data1 + f->data2;
+    size_t slot_data = data_of(f);
     if (n_data != SLOTS * slot_data) return refuse(3, 0);
     if (n_tfci != (size_t)SLOTS * f->tfci) return refuse(3, 1);
     if (n_out != (size_t)SLOTS * f->slot) return refuse(3, 2);
@@ -28,7 +26,7 @@ uint64_t plain_frame_read(size_t format, const uint8_t *frame, size_t n_frame, u
                           uint8_t *tfci, size_t n_tfci, uint8_t *commands, size_t n_commands) {
     if (format > 16) return refuse(1, 0);
     const struct format *f = &FORMATS[format];
-    size_t slot_data = (size_t)f->data1 + f->data2;
+    size_t slot_data = data_of(f);
     if (n_frame != (size_t)SLOTS * f->slot) return refuse(3, 0);
     if (n_data != SLOTS * slot_data) return refuse(3, 1);
     if (n_tfci != (size_t)SLOTS * f->tfci) return refuse(3, 2);

@@ -1,31 +1,6 @@
 /* The P-CCPCH frame on two antennas in plain C. */
-#include "plain.h"
-
-#include <string.h>
-
-#include "plain_parts.h"
-
-enum { DTX = 2, SLOTS = 15, SLOT = 20, SLOT_DATA = 18, DATA = SLOTS * SLOT_DATA, FRAME = SLOTS * SLOT, IN_FOURS = 268 };
-
-/* What antenna 2 sends for data of 0 and 1: STTD in fours over the whole frame's data, the last two as they are. */
-static void second_antenna(const uint8_t *data, uint8_t *other) {
-    for (size_t d = 0; d < IN_FOURS; d += 4) {
-        other[d] = data[d + 2] ^ 1;
-        other[d + 1] = data[d + 3];
-        other[d + 2] = data[d];
-        other[d + 3] = data[d + 1] ^ 1;
-    }
-    memcpy(other + IN_FOURS, data + IN_FOURS, DATA - IN_FOURS);
-}
-
-/* Each slot begins with two digits of DTX. */
-static void put_frame(const uint8_t *data, uint8_t *frame) {
-    for (size_t slot = 0; slot < SLOTS; slot++) {
-        frame[SLOT * slot] = DTX;
-        frame[SLOT * slot + 1] = DTX;
-        memcpy(frame + SLOT * slot + 2, data + SLOT_DATA * slot, SLOT_DATA);
-    }
-}
+#include "pccpch.h"
+#include "yardsticks.h"
 
 /* The first digit that is DTX where it should not be, or not where it should, or FRAME. */
 static size_t first_of_wrong_kind(const uint8_t *frame) {
@@ -63,9 +38,7 @@ uint64_t plain_pccpch_read(const uint8_t *antenna1, size_t n1, const uint8_t *an
     if (i < FRAME) return refuse(4, FRAME + i);
     i = first_of_wrong_kind(antenna1);
     if (i < FRAME) return refuse(9, i);
-    for (size_t slot = 0; slot < SLOTS; slot++) {
-        memcpy(found + SLOT_DATA * slot, antenna1 + SLOT * slot + 2, SLOT_DATA);
-    }
+    take_data(antenna1, found);
     second_antenna(found, other);
     put_frame(other, implied);
     for (i = 0; i < FRAME; i++) {

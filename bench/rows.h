@@ -1,0 +1,16 @@
+/* The rows of each channel, each in a file of its own. */
+#ifndef ROWS_H
+#define ROWS_H
+
+void bench_dpch(void);
+void bench_frame(void);
+void bench_pich(void);
+void bench_pccpch(void);
+void bench_sttd(void);
+void bench_aich(void);
+void bench_sample(void);
+
+/* The rows of the program, given the paths of slotline, of the tight and of the plain C program. */
+void bench_slotline(const char *slotline, const char *tight, const char *plain);
+
+#endif
