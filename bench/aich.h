@@ -27,6 +27,15 @@ enum { SIGNATURES = 16, VALUES = 32, GAIN_LIMIT = 4096, RECEIVED_LIMIT = 1048576
 ROUNDS(int32_t, fold, transform)
 ROUNDS(int64_t, fold_wide, transform_wide)
 
+/* The values of indicators: the sum of each pair. */
+static inline void write_pairs(int32_t *indicators, int32_t *values) {
+    transform(indicators);
+    for (size_t k = 0; k < SIGNATURES; k++) {
+        values[2 * k] = indicators[k];
+        values[2 * k + 1] = indicators[k];
+    }
+}
+
 /* For each symbol of T, its real part plus its imaginary part: both meet the same signs. */
 static inline void combine_pairs(const int64_t *h, const int32_t *received, int64_t *sums) {
     for (size_t m = 0; m < SIGNATURES / 2; m++) {
