@@ -1,4 +1,5 @@
 // The downlink DPCH: slot formats and pilot bits. docs/RULES.md, 'DPCH slot'; TS 25.211, 5.3.2, tables 11 and 12.
+// The tables of the uplink's dedicated channels stand in specs/ too, so that what every layout obeys is said once.
 ghost use mathlib.Core.Path.{_≡_};
 ghost use Rattle.dpch.specs.Formats.{formatOf};
 ghost use Rattle.dpch.specs.Pilots.{pilotRow};
@@ -10,6 +11,15 @@ pub struct Format {
     pub tpc: usize,
     pub tfci: usize,
     pub pilot: usize,
+    pub slot: usize,
+}
+
+// The bits of each field of an uplink DPCCH slot, and of the slot.
+pub struct Dpcch {
+    pub pilot: usize,
+    pub tfci: usize,
+    pub fbi: usize,
+    pub tpc: usize,
     pub slot: usize,
 }
 

@@ -24,6 +24,7 @@ use Rattle.run.proofs.Front.{Front, front-none, front-fill, front-copy, front-l
 use Rattle.dpch.specs.declared.Format.{Format}
 use Rattle.dpch.specs.Formats.{formatOf, widths}
 use Rattle.dpch.specs.Pilots.{pilotSource, pilotOf}
+use Rattle.dpch.specs.Layouts.{downlinkDpch}
 use Rattle.dpch.proofs.Exact.{fields-fill, format-sizes, format-pilots}
 use Rattle.slot.specs.Rule.{dataSize, fieldsOf, slotOf, tfciIn, dataIn, commandIn, tfciStands}
 use Rattle.slot.specs.Outcome.{digitsVerdict, partVerdict}
@@ -33,7 +34,7 @@ use Rattle.slot.specs.Ready.{Sound, Whole}
 pub sound-format : (format : ℕ) → Sound (formatOf format)
 sound-format format =
     record {
-      fills = fields-fill format;
+      fills = fields-fill downlinkDpch format;
       short = format-sizes format .short;
       pilot = λ slot. record { cut-from = format-pilots format slot .cut-from; enough = format-pilots format slot .enough };
     }
