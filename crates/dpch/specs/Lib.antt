@@ -3,4 +3,5 @@ pub mod Pilots
 pub mod Uplink
 pub mod UplinkPilots
 pub mod Layouts
+pub mod Heads
 pub mod Exact

@@ -2,14 +2,16 @@
 -- Assumes nothing.
 use mathlib.Core.Path.{_≡_, refl, sym, ap, _∙_}
 use mathlib.Core.Bool.{Bool, true, false, cond}
+use mathlib.Core.List.{List, [], _∷_}
 use Prim.Native.Nat.{ℕ, zero, suc, _+_, _<_, suc-le-suc}
 use native.Mathlib.Nat.{zero-add, not-suc-le-zero, le-of-suc-le-suc}
 use native.Mathlib.Omega.{arith}
 use borrow.Author.Tests.{eqb-true, eqb-false, eq-eqb, ne-eqb}
 use lib.Dec.{eqb, leb, lit<}
+use lib.ListN.{length, getD}
 use Rattle.run.specs.declared.Verdict.{Verdict}
 use Rattle.run.specs.First.{firstBad, all, Every}
-use Rattle.run.specs.Verdicts.{done, orElse, unless, each, chain, leaves, Narrow}
+use Rattle.run.specs.Verdicts.{done, orElse, unless, each, lengths, chain, leaves, Narrow}
 use Rattle.run.proofs.First.{first-le}
 use Rattle.run.proofs.Passing.{all-every, every-all}
 
@@ -75,6 +77,9 @@ pub each-pass : (base number : ℕ) (ok : ℕ → Bool) (n : ℕ) → Every ok n
 unfolding each
 each-pass base number ok n every = unless-pass number _ (every-all n ok every)
 
+pub number-0 : {v : Verdict} → v ≡ done → v .number ≡ 0
+number-0 e = ap (λ (v : Verdict). v .number) e
+
 -- a chain in code, link by link
 pub or-else-is : {r v w : Verdict} {a b : Verdict} → r ≡ orElse v w → v ≡ a → w ≡ b → r ≡ orElse a b
 or-else-is e p q = e ∙ rw (p, q)
@@ -83,6 +88,46 @@ or-else-is e p q = e ∙ rw (p, q)
 pub each-is : (base number : ℕ) (ok : ℕ → Bool) (n i : ℕ) (r : Verdict) → i ≡ firstBad ok n → r ≡ unless (leb n i) number (base + i) → r ≡ each base number ok n
 unfolding each
 each-is base number ok n i r e h = h ∙ rw e
+
+-- the lengths of four runs one after the other, and of three and of two where nothing is asked of the rest
+pub lengths-four : (a b c d : Bool) → orElse (unless a 3 0) (orElse (unless b 3 1) (orElse (unless c 3 2) (unless d 3 3))) ≡ lengths (a ∷ b ∷ c ∷ d ∷ [])
+unfolding lengths each firstBad orElse unless
+lengths-four false b c d = refl
+lengths-four true false c d = refl
+lengths-four true true false d = refl
+lengths-four true true true false = refl
+lengths-four true true true true = refl
+
+pub lengths-three : (a b c : Bool) → lengths (a ∷ b ∷ c ∷ true ∷ []) ≡ lengths (a ∷ b ∷ c ∷ [])
+unfolding lengths each firstBad unless
+lengths-three false b c = refl
+lengths-three true false c = refl
+lengths-three true true false = refl
+lengths-three true true true = refl
+
+pub lengths-two : (a b : Bool) → lengths (a ∷ b ∷ true ∷ true ∷ []) ≡ lengths (a ∷ b ∷ [])
+unfolding lengths each firstBad unless
+lengths-two false b = refl
+lengths-two true false = refl
+lengths-two true true = refl
+
+-- every one of them is right where the check is done, and the other way
+pub lengths-done : (right : List Bool) → lengths right .number ≡ 0 → Every (λ (k : ℕ). getD right k true) (length right)
+unfolding lengths
+lengths-done right h = each-done 0 3 _ _ (lit< tt) h
+
+abbrev pub AllRight : List Bool → Type 0
+AllRight [] = Unit {0}
+AllRight (r ∷ rs) = (r ≡ true) × AllRight rs
+
+all-right : (right : List Bool) → AllRight right → Every (λ (k : ℕ). getD right k true) (length right)
+all-right [] all k h = absurd (not-suc-le-zero h)
+all-right (r ∷ rs) all zero h = all .0
+all-right (r ∷ rs) all (suc k) h = all-right rs (all .1) k (le-of-suc-le-suc h)
+
+pub lengths-pass : (right : List Bool) → AllRight right → lengths right ≡ done
+unfolding lengths
+lengths-pass right h = each-pass 0 3 _ _ (all-right right h)
 
 -- where the first check's answer is known
 pub or-else-refused : (v w : Verdict) → (v .number ≡ 0 → ⊥) → orElse v w ≡ v
@@ -140,6 +185,10 @@ unless-narrow false number place h k = record { number-fits = h; place-fits = k 
 pub each-narrow : (base number : ℕ) (ok : ℕ → Bool) (n : ℕ) → number < 65536 → base + n < 4294967296 → Narrow (each base number ok n)
 unfolding each
 each-narrow base number ok n h k = unless-narrow _ number _ h (let l = first-le ok n in omega arith)
+
+pub lengths-narrow : (right : List Bool) → length right < 4294967296 → Narrow (lengths right)
+unfolding lengths
+lengths-narrow right h = each-narrow 0 3 _ (length right) (lit< tt) (omega arith)
 
 pub chain-narrow : (n : ℕ) (v : ℕ → Verdict) → ((k : ℕ) → k < n → Narrow (v k)) → Narrow (chain n v)
 unfolding chain

@@ -1,10 +1,13 @@
 -- docs/RULES.md, 'Numbers a call can return': the first check that fails is told, and within one check the lowest place.
 -- Assumes nothing.
 use Prim.Native.Nat.{ℕ, zero, suc, _+_, _<_}
-use mathlib.Core.Bool.{Bool, cond}
+use mathlib.Core.Bool.{Bool, true, cond}
+use mathlib.Core.List.{List}
+use lib.ListN.{length, getD}
 use lib.Dec.{eqb}
 use Rattle.run.specs.declared.Verdict.{Verdict}
 use Rattle.run.specs.First.{firstBad, all}
+use Rattle.run.specs.Refusals.{lengthRefused}
 
 abbrev pub refused : ℕ → ℕ → Verdict
 refused number place = record { number = number; place = place }
@@ -24,6 +27,10 @@ unless ok number place = cond ok done (refused number place)
 -- refused at the first of n places at which the test fails; places count from base
 unfoldable pub each : ℕ → ℕ → (ℕ → Bool) → ℕ → Verdict
 each base number ok n = unless (all n ok) number (base + firstBad ok n)
+
+-- 3 at the first lent run that has the wrong length: whether each of a call's runs has its own, in the order of the call
+unfoldable pub lengths : List Bool → Verdict
+lengths right = each 0 lengthRefused (λ (k : ℕ). getD right k true) (length right)
 
 -- the first of n verdicts that refuses, as of slots one by one
 unfoldable pub chain : ℕ → (ℕ → Verdict) → Verdict

@@ -1,9 +1,10 @@
 // Verdicts and their order, and what is said of runs of digits. No channel's rule stands here.
 ghost use mathlib.Core.Path.{_≡_};
+ghost use mathlib.Core.List.{[], _∷_};
 ghost use Prim.Native.Nat.{_+_, min};
 ghost use lib.Dec.{leb};
 ghost use lib.ListN.{length};
-ghost use Rattle.run.specs.Verdicts.{orElse, unless};
+ghost use Rattle.run.specs.Verdicts.{orElse, unless, lengths};
 
 pub mod refusal;
 
@@ -35,6 +36,16 @@ pub fn unless(ok: bool, number: usize, place: usize) -> Verdict
     } else {
         Verdict { number, place }
     }
+}
+
+// 3 at the first run that has the wrong length: whether each of a call's runs has its own, in the order of the call. A call with fewer runs says true of the rest.
+pub fn lengths(first: bool, second: bool, third: bool, fourth: bool) -> Verdict
+    ensures { λ r. ⌜ r ≡ lengths (first ∷ second ∷ third ∷ fourth ∷ []) ⌝ }
+{
+    let last = unless(fourth, refusal::LENGTH, 3);
+    let later = or_else(unless(third, refusal::LENGTH, 2), last);
+    let rest = or_else(unless(second, refusal::LENGTH, 1), later);
+    or_else(unless(first, refusal::LENGTH, 0), rest)
 }
 
 // Refused at place i of the run, counted from `base`, where i is one of its places: what a scan's answer means.
