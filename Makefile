@@ -1,22 +1,26 @@
-# Targets: run (the program on an example job), test (the gate), lib (the proved archive for C), slotline (the program), install, bench; and the steps of
-# test: fmt, audit, second, jobs, cases, host, fuzz, package.
+# Targets: run (the program on an example job), test (the gate), lib (the proved archive for C), slotline (the program), install, bench, pictures; and the steps of
+# test: fmt, audit, second, jobs, cases, host, fuzz, package. tools-run and tools-test look for what run and test need.
 CFLAGS = -std=c11 -O2 -g -Wall -Wextra -Werror
 SANITIZE = -fsanitize=address,undefined -fno-sanitize-recover=all
 LIB = target/staticlib/libslt.a
 SLOTLINE = target/bin/slotline
 SECOND = target/second/release
 
-.PHONY: test steps lib slotline run fmt audit judges second jobs cases host fuzz install package bench clean
+.PHONY: test tools-run tools-test steps lib slotline run fmt audit pictures judges second jobs cases host fuzz install package bench clean
 
 # What the steps stand on is proved first, then the steps go two at a time, the output of each in one piece. rt ci comes last: it proves every crate from
 # nothing, tries every must-fail edit, and prints the verdict. It starts four checks at a time, so that two cores stay busy while one waits for its fellows.
 export RT_JOBS = 4
-test:
+test: | tools-test
 	rt check $(BELOW_C) slotline
 	$(MAKE) --no-print-directory -j2 --output-sync=target steps
 	rt ci
 
 steps: fmt audit second jobs cases host fuzz package
+
+# The tools, one list for both commands. What is missing is installed where it may be, else the command that does it is printed.
+tools-run tools-test:
+	@sh setup/tools.sh $(@:tools-%=%)
 
 fmt:
 	rt fmt --check
@@ -32,16 +36,21 @@ lib:
 	cd $(dir $(LIB)) && for name in $(C_CALLS); do ar x lib$$name.a || exit 1; done && ar crs $(notdir $(LIB)) $(addsuffix .o,$(C_CALLS))
 
 # Proves the program that reads a job file and what it stands on, and compiles it.
-slotline:
+slotline: | tools-run
 	$(ONE_RT) rt check slotline
 
 # The program on an example job. On a file of one's own: target/bin/slotline < FILE
 run: slotline
 	$(SLOTLINE) < examples/three_kinds.slt
 
-# docs/PROMISES.md against the source.
+# The pages, the header, the comments and the pictures against the source; then the audit itself, tried on wrong words that it must find.
 audit:
-	python3 audit/promises.py
+	python3 -B audit/audit.py
+	python3 -B audit/test_audit.py
+
+# The pictures of docs/, drawn anew from crates.txt and from the specs.
+pictures:
+	python3 -B audit/pictures.py
 
 # What needs no archive of the independent second program: its own tests, and the programs that judge job files, cases and random calls.
 judges:

@@ -1,32 +1,12 @@
-#!/usr/bin/env python3
 """Compares docs/PROMISES.md with the source.
 
 Each public function of a crate has a row; each promise, theorem and edit that a row names exists in its crate; each row
-has at least two edits; each edit of a crate is named on the page, and the text that it replaces stands once in its file. Prints what is
-missing, and fails if anything is.
+has at least two edits; each edit of a crate is named on the page, and the text that it replaces stands once in its file.
 """
 import pathlib
 import re
-import sys
 
-ROOT = pathlib.Path(__file__).resolve().parent.parent
-CRATES = ROOT / "crates"
-PAGE = ROOT / "docs" / "PROMISES.md"
-# Programs have no contract that could say what they print; what they call has.
-PROGRAMS = {path.parent.parent.name for path in CRATES.glob("*/src/main.rt")}
-
-
-def public_functions():
-    """The full name of each public function: crate, module where it has one, and its own name."""
-    found = set()
-    for path in CRATES.glob("*/src/*.rt"):
-        crate = path.parent.parent.name
-        if crate in PROGRAMS:
-            continue
-        module = "" if path.stem == "lib" else path.stem + "::"
-        for kind, name in re.findall(r"^pub (extern \"C\" )?fn (\w+)", path.read_text(), re.M):
-            found.add(name if kind else f"{crate}::{module}{name}")
-    return found
+PAGE = "docs/PROMISES.md"
 
 
 def names(cell):
@@ -40,10 +20,10 @@ def functions_of(cell):
     return [name if "::" in name or not module else f"{module}::{name}" for name in listed]
 
 
-def rows():
+def rows(tree):
     """Each table row as a dictionary from the heading of a column to its cell."""
     heads = []
-    for line in PAGE.read_text().splitlines():
+    for line in tree.text(PAGE).splitlines():
         cells = [cell.strip() for cell in line.strip().strip("|").split("|")]
         if not line.startswith("|"):
             heads = []
@@ -53,95 +33,83 @@ def rows():
             yield dict(zip(heads, cells))
 
 
-def crate_of(function):
+def crate_of(tree, function):
     """The crate of a function; that of a C function is the one that exports it."""
     if "::" in function:
         return function.split("::")[0]
-    for path in CRATES.glob("slt_*/src/lib.rt"):
-        if f"fn {function}(" in path.read_text():
-            return path.parent.parent.name
-    return "no crate"
+    found = [crate for crate in tree.crates if crate.startswith("slt_") and f"{crate}::{function}" in tree.items[crate]]
+    return found[0] if found else "no crate"
 
 
-def declared(crate, folder, name):
-    """A definition, a record or a theorem of that name in the crate's specs or proofs."""
-    form = re.compile(rf"^\s*(?:unfoldable |abbrev )*(?:pub )(?:record |data )?{re.escape(name)}(?![\w-])", re.M)
-    return any(form.search(path.read_text()) for path in (CRATES / crate / folder).rglob("*.antt"))
+def anywhere(index, name):
+    return any(name in found for found in index.values())
 
 
-def anywhere(folder, name):
-    return any(declared(path.name, folder, name) for path in CRATES.iterdir())
-
-
-def edit_exists(crate, name):
-    return (CRATES / crate / "must-fail" / f"{name}.edit").is_file()
-
-
-def check_edit(path, faults):
+def check_edit(tree, path):
     """Each text that an edit replaces stands once in its file."""
-    source, pairs = None, 0
-    for line in path.read_text().splitlines():
+    crate, edit, source, pairs = path.split("/")[1], pathlib.PurePosixPath(path).stem, None, 0
+    for line in tree.text(path).splitlines():
         if line.startswith("file: "):
-            source = path.parent.parent / line.removeprefix("file: ")
+            source = f"crates/{crate}/" + line.removeprefix("file: ")
         elif line.startswith("old: "):
             pairs += 1
-            times = source.read_text().count(line.removeprefix("old: ")) if source and source.is_file() else 0
+            times = tree.text(source).count(line.removeprefix("old: ")) if source and tree.has(source) else 0
             if times != 1:
-                faults.append(f"edit {path.stem} of {path.parent.parent.name}: its text stands {times} times in its file")
+                yield f"edit {edit} of {crate}: its text stands {times} times in its file"
     if not pairs:
-        faults.append(f"edit {path.stem} of {path.parent.parent.name} replaces nothing")
+        yield f"edit {edit} of {crate} replaces nothing"
 
 
-def check_row(row, function, faults):
-    crate = crate_of(function)
+def check_row(tree, row, function):
+    crate = crate_of(tree, function)
     for name in names(row.get("once", "")):
         # the theorems of a crate NAME_PART stand with the rule, in NAME
-        if not declared(crate, "proofs", name) and not declared(crate.split("_")[0], "proofs", name):
-            faults.append(f"{function}: no theorem {name} in its crate")
+        if not any(name in tree.theorems.get(place, ()) for place in (crate, crate.split("_")[0])):
+            yield f"{function}: no theorem {name} in its crate"
     for name in names(row.get("theorems", "")):
-        if re.fullmatch(r"[a-z0-9-]+", name) and name not in {path.name for path in CRATES.iterdir()} and not anywhere("proofs", name):
-            faults.append(f"{function}: no theorem {name}")
+        if re.fullmatch(r"[a-z0-9-]+", name) and name not in tree.crates and not anywhere(tree.theorems, name):
+            yield f"{function}: no theorem {name}"
     promised = names(row.get("promise", ""))
-    if not any(anywhere("specs", name) for name in promised) and promised[:1] not in (["min"], ["replicate"]):
-        faults.append(f"{function}: none of its promises {promised} is defined")
+    if not any(anywhere(tree.definitions, name) for name in promised) and promised[:1] not in (["min"], ["replicate"]):
+        yield f"{function}: none of its promises {promised} is defined"
     edits = names(row.get("must-fail edits", row.get("edits", "")))
     for name in edits:
-        if not edit_exists(crate, name):
-            faults.append(f"{function}: no edit {name}")
+        if name not in tree.edits.get(crate, ()):
+            yield f"{function}: no edit {name}"
     if len(edits) < 2:
-        faults.append(f"{function}: fewer than two edits")
+        yield f"{function}: fewer than two edits"
 
 
-def check_models(row, faults):
+def check_models(tree, row):
     for name in names(row["theorem"]):
-        if re.fullmatch(r"[a-z][a-z0-9-]+", name) and not anywhere("proofs", name):
-            faults.append(f"useless models: no theorem {name}")
+        if re.fullmatch(r"[a-z][a-z0-9-]+", name) and not anywhere(tree.theorems, name):
+            yield f"useless models: no theorem {name}"
     for name in names(row["edit"]):
-        if not any(edit_exists(path.name, name) for path in CRATES.iterdir()):
-            faults.append(f"useless models: no edit {name}")
+        if not anywhere(tree.edits, name):
+            yield f"useless models: no edit {name}"
 
 
-def main():
-    faults, listed = [], set()
-    for row in rows():
+def check_edits(tree):
+    page = set(names(tree.text(PAGE)))
+    for path in tree.under("crates/*/must-fail/*.edit"):
+        yield from check_edit(tree, path)
+        crate, edit = path.split("/")[1], pathlib.PurePosixPath(path).stem
+        if edit not in page and crate not in tree.programs:
+            yield f"edit {edit} of {crate} is not named"
+
+
+def faults(tree):
+    found, listed = [], set()
+    for row in rows(tree):
         if "model" in row:
-            check_models(row, faults)
+            found += check_models(tree, row)
         for head in ("call", "part", "C function"):
             for function in functions_of(row[head]) if head in row else []:
                 listed.add(function)
-                check_row(row, function, faults)
+                found += check_row(tree, row, function)
                 if head != "part" and not names(row.get("once", "")):
-                    faults.append(f"{function}: no theorem that it allows one outcome")
-    public = public_functions()
-    faults += [f"{function}: no row" for function in sorted(public - listed)]
-    faults += [f"{function}: a row, but no such function" for function in sorted(listed - public)]
-    page = set(names(PAGE.read_text()))
-    for path in sorted(CRATES.glob("*/must-fail/*.edit")):
-        check_edit(path, faults)
-        if path.stem not in page and path.parent.parent.name not in PROGRAMS:
-            faults.append(f"edit {path.stem} of {path.parent.parent.name} is not named")
-    print("\n".join(faults) if faults else f"docs/PROMISES.md: {len(listed)} public functions, each with its row")
-    sys.exit(1 if faults else 0)
-
-
-main()
+                    found.append(f"{function}: no theorem that it allows one outcome")
+    public = tree.public_functions
+    found += [f"{function}: no row" for function in sorted(public - listed)]
+    found += [f"{function}: a row, but no such function" for function in sorted(listed - public)]
+    return [f"{PAGE}: {fault}" for fault in found + list(check_edits(tree))]

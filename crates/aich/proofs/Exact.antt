@@ -9,9 +9,8 @@ use lib.Dec.{lit<}
 use lib.ListN.{length}
 use lib.Seq.{ext-getD}
 use lib.IntN.{ℤ, pos, negsuc}
-use Rattle.run.specs.declared.Verdict.{Verdict}
 use Rattle.run.specs.Verdicts.{done, Narrow}
-use Rattle.run.proofs.Chain.{or-else-pass, unless-pass, each-pass, check-narrow, unless-narrow, each-narrow, or-else-narrow, one-outcome}
+use Rattle.run.proofs.Chain.{or-else-pass, unless-pass, each-pass, check-narrow, unless-narrow, each-narrow, or-else-narrow, one-outcome, number-0}
 use Rattle.run.proofs.Ranges.{range-holds}
 use Rattle.run.proofs.Table.{tab-is}
 use Rattle.whole.specs.Bound.{Bounded}
@@ -23,9 +22,6 @@ use Rattle.aich.specs.Exact.{Gives, ReadExact, Sized, GivenSized, MapOnc
 use Rattle.aich.proofs.Laws.{entry, values-length, value-at, value-small, indicators-length, indicator-small, given-back}
 use Rattle.aich.proofs.Reading.{given-every, every-given}
 use Rattle.aich.proofs.Checks.{taken, Accepted, accepted}
-
-number-0 : {v : Verdict} → v ≡ done → v .number ≡ 0
-number-0 e = ap (λ (v : Verdict). v .number) e
 
 given-units : {indicators values : List ℤ} → Gives indicators values → Sixteen 1 indicators
 given-units {indicators} g = taken indicators 32 (number-0 (g .taken)) .indicators-ok

@@ -28,6 +28,7 @@ use Rattle.whole.proofs.Sum.{sum-same, sum-plus, sum-minus, sum-one}
 use Rattle.signature.specs.Rule.{isPlus, sign}
 use Rattle.aich.specs.Rule.{valueAt}
 use Rattle.aich.specs.Method.{Sixteen, foldAt, folded, halfOf}
+use Rattle.aich.proofs.Laws.{entry}
 
 -- a row of A over x
 abbrev over : (ℕ → ℕ → ℤ) → (ℕ → ℤ) → ℕ → ℤ
@@ -63,9 +64,6 @@ fold-same x y e k h = rw (e (k / 2) (omega arith), e (k / 2 + 8) (omega arith))
 -- one folding more
 given-fold : {A : ℕ → ℕ → ℤ} {x y : ℕ → ℤ} → Given A x y → Given (foldRows A) x (foldAt y)
 given-fold {A} {x} {y} g = record { row = λ k h. fold-same y (over A x) (g .row) k h ∙ fold-over A x k }
-
-abbrev entry : List ℤ → ℕ → ℤ
-entry x k = getD x k (pos 0)
 
 folded-at : (x : List ℤ) (k : ℕ) → k < 16 → getD (folded x) k (pos 0) ≡ foldAt (entry x) k
 unfolding folded

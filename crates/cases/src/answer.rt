@@ -73,15 +73,7 @@ fn signed(i: usize, v: i64) {
     io::print_decimal(STDOUT_FILENO, size_of(v));
 }
 
-pub(crate) fn values(run: &[i32]) {
-    let mut i = 0;
-    while i < run.len() {
-        signed(i, question::wide(run[i]));
-        i += 1;
-    }
-}
-
-pub(crate) fn results(run: &[i64]) {
+pub(crate) fn values(run: &[i64]) {
     let mut i = 0;
     while i < run.len() {
         signed(i, run[i]);

@@ -50,8 +50,6 @@ pub(crate) const DIGITS: usize = 300;
 
 pub(crate) const VALUES: usize = 32;
 
-pub(crate) const RESULTS: usize = 16;
-
 // A letter that is a digit as that digit, any other as it is.
 pub(crate) fn digit(letter: u8) -> u8 {
     if b'0' <= letter {
@@ -173,7 +171,7 @@ fn value(run: &[u8], k: usize) -> i32 {
     }
 }
 
-pub(crate) fn wide(x: i32) -> i64 {
+fn wide(x: i32) -> i64 {
     x as i64
 }
 
@@ -209,16 +207,15 @@ pub(crate) fn values(run: &[u8], to: &mut [i32]) -> usize
     i
 }
 
-pub(crate) fn results(run: &[u8], to: &mut [i64]) -> usize
+// The same numbers in 64 bits, as many as there is room for.
+pub(crate) fn widen(run: &[i32], to: &mut [i64]) -> usize
     ensures { λ r. ⌜ (r ≤ length (now (to .exit))) × (r ≡ length (take r (now (to .exit)))) ⌝ }
 {
+    let n = shorter(run.len(), to.len());
     let mut i = 0;
-    while i < to.len() {
-        if behind(run, b',', i).len() == 0 {
-            return i;
-        }
-        to[i] = signed(run, i);
+    while i < n {
+        to[i] = wide(run[i]);
         i += 1;
     }
-    i
+    n
 }

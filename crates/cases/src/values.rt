@@ -1,7 +1,6 @@
 // The calls on runs of whole numbers: what is given stands first in the question, and what is lent stands last.
 use crate::answer;
 use crate::question;
-use crate::question::RESULTS;
 use crate::question::VALUES;
 use crate::question::run;
 use crate::question::signed;
@@ -18,7 +17,9 @@ fn write(call: usize, given: &[i32], out: &mut [i32]) -> Verdict {
 fn tell(call: usize, line: &[u8], given: &[i32], out: &mut [i32]) {
     answer::verdict(write(call, given, out));
     answer::key(line, 0);
-    answer::values(out);
+    let mut shown = [0; VALUES];
+    let n = question::widen(out, &mut shown);
+    answer::values(&shown[..n]);
 }
 
 pub(crate) fn lend(call: usize, line: &[u8]) {
@@ -40,13 +41,20 @@ fn combine(line: &[u8], received: &[i32], results: &mut [i64]) {
         results,
     ));
     answer::key(line, 0);
-    answer::results(results);
+    answer::values(results);
+}
+
+// The run that is lent, in 64 bits.
+fn lend_wide(line: &[u8], received: &[i32], lent: &[i32]) {
+    let mut results = [0; VALUES];
+    let n = question::widen(lent, &mut results);
+    combine(line, received, &mut results[..n]);
 }
 
 pub(crate) fn lend_results(line: &[u8]) {
     let mut received = [0; VALUES];
     let n = question::values(run(line, 2), &mut received);
-    let mut results = [0; RESULTS];
-    let m = question::results(run(line, 3), &mut results);
-    combine(line, &received[..n], &mut results[..m]);
+    let mut lent = [0; VALUES];
+    let m = question::values(run(line, 3), &mut lent);
+    lend_wide(line, &received[..n], &lent[..m]);
 }

@@ -8,7 +8,7 @@ use lib.IntN.{ℤ, pos, negℤ, _+ℤ_}
 use Rattle.run.specs.declared.Verdict.{Verdict}
 use Rattle.run.specs.First.{Every}
 use Rattle.run.specs.Verdicts.{done}
-use Rattle.run.proofs.Chain.{or-else-pass, leaves-done}
+use Rattle.run.proofs.Chain.{or-else-pass, leaves-done, number-0}
 use Rattle.run.proofs.Table.{tab-at}
 use Rattle.aich.specs.Rule.{valuesOf}
 use Rattle.aich.specs.Method.{Sixteen}
@@ -24,9 +24,6 @@ use Rattle.combiner.specs.Demand3.{clean, noisy, own, Allowed, Sent, Sec
 use Rattle.combiner.proofs.Channel.{sent-second, clean-length, clean-parts, clean-number, noisy-length, noisy-number}
 use Rattle.combiner.proofs.Checks.{Taken, gain-small, small-parts, head-passes, body-passes}
 use Rattle.combiner.proofs.Exact.{encoder-takes}
-
-number-0 : {v : Verdict} → v ≡ done → v .number ≡ 0
-number-0 e = ap (λ (v : Verdict). v .number) e
 
 -- ---- a call that is taken
 module _ (h1 h2 : Complex) (received results : List ℤ) (long : length received ≡ 32) (room : length results ≡ 16) (t : Taken h1 h2 received) where

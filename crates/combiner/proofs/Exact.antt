@@ -8,10 +8,9 @@ use borrow.Author.Tests.{eq-eqb}
 use lib.Dec.{lit<}
 use lib.ListN.{getD}
 use lib.IntN.{ℤ, pos, negℤ, _*ℤ_}
-use Rattle.run.specs.declared.Verdict.{Verdict}
 use Rattle.run.specs.Ranges.{between}
 use Rattle.run.specs.Table.{tab}
-use Rattle.run.proofs.Chain.{or-else-pass, unless-pass, each-pass, check-narrow, unless-narrow, each-narrow, or-else-narrow, one-outcome}
+use Rattle.run.proofs.Chain.{or-else-pass, unless-pass, each-pass, check-narrow, unless-narrow, each-narrow, or-else-narrow, one-outcome, number-0}
 use Rattle.run.proofs.Table.{tab-length, tab-at, tab-is}
 use Rattle.whole.specs.Sum.{sum}
 use Rattle.whole.proofs.Bound.{range-low, range-high}
@@ -32,7 +31,7 @@ use Rattle.combiner.proofs.Fours.{by-fours}
 pub encoder-takes : EncoderTakes
 unfolding valuesVerdict between
 encoder-takes indicators e =
-    let units = taken indicators 32 (ap (λ (v : Verdict). v .number) e) .indicators-ok in
+    let units = taken indicators 32 (number-0 e) .indicators-ok in
     let n = values-length indicators in
     or-else-pass (unless-pass 3 0 (eq-eqb _ _ n))
     (or-else-pass (unless-pass 3 1 (eq-eqb 32 32 refl))

@@ -6,18 +6,16 @@ use mathlib.Core.List.{List}
 use Prim.Native.Nat.{ℕ, _+_, _*_, _/_, _%_, _<_}
 use native.Mathlib.Omega.{arith}
 use lib.Dec.{eqb}
-use lib.ListN.{length, getD, set}
+use lib.ListN.{length, set}
 use lib.IntN.{ℤ, pos}
 use Rattle.run.proofs.Front.{Front, front-length, front-store}
 use Rattle.run.proofs.Table.{tab-length, tab-at}
 use Rattle.whole.specs.Bound.{Bounded}
+use Rattle.aich.proofs.Laws.{entry}
 use Rattle.correlator.specs.declared.Complex.{Complex}
 use Rattle.correlator.specs.Rule.{symbol, t1, t2, partOf, combinedAt, combined, numberOf, numbersOf}
 use Rattle.correlator.specs.Method.{Small, Parts, correlations}
 use Rattle.correlator.proofs.Sizes.{small-conj, small-times, small-plus, small-minus}
-
-abbrev entry : List ℤ → ℕ → ℤ
-entry x k = getD x k (pos 0)
 
 pub combined-length : (h1 h2 : Complex) (r : List ℤ) → length (combined h1 h2 r) ≡ 32
 unfolding combined

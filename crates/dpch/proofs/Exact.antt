@@ -1,7 +1,7 @@
 -- The theorems of specs/Exact.antt.
 -- Assumes nothing.
 use mathlib.Core.Path.{_≡_, refl, sym, ap, _∙_, subst}
-use mathlib.Core.Bool.{Bool, true, false, cond, _&&_, _||_}
+use mathlib.Core.Bool.{Bool, true, _&&_, _||_}
 use mathlib.Core.List.{List, [], _∷_}
 use Prim.Native.Nat.{ℕ, _+_, _-_, _*_, _^_, _≤_, _<_}
 use native.Mathlib.Nat.{not-suc-le-zero}
@@ -12,7 +12,7 @@ use lib.ListN.{length, getD, take, drop, replicate, length-append}
 use Rattle.run.specs.First.{firstBad, Every}
 use Rattle.run.specs.Fields.{total, cut, joined, field, start}
 use Rattle.run.specs.Table.{tab}
-use Rattle.run.proofs.Bools.{and-left, and-right}
+use Rattle.run.proofs.Bools.{and-left, and-right, either}
 use Rattle.run.proofs.Each.{Each, each-take, each-drop, each-append}
 use Rattle.run.proofs.Fields.{field-is, field-length}
 use Rattle.run.proofs.First.{every-by}
@@ -65,10 +65,6 @@ format-sizes n =
 -- the bits that a pilot can have, 0 for the row of zeros
 pilotBits : ℕ → Bool
 pilotBits bits = eqb bits 0 || eqb bits 2 || eqb bits 4 || eqb bits 8 || eqb bits 16
-
-either : (a b : Bool) {X : Type 0} → (a || b) ≡ true → (a ≡ true → X) → (b ≡ true → X) → X
-either true b e f g = f refl
-either false b e f g = g e
 
 -- what holds for patterns of 0, 2, 4, 8 and 16 bits holds for the pilot of every format
 pub at-each : (P : ℕ → Type 0) → P 0 → P 2 → P 4 → P 8 → P 16 → (format : ℕ) → P (formatOf format .pilot)

@@ -1,50 +1,80 @@
 -- What is known of a frame's lengths, fields and slots where no check refuses them.
 -- Assumes nothing.
 use mathlib.Core.Path.{_≡_}
+use mathlib.Core.Bool.{Bool, true}
 use mathlib.Core.List.{List}
-use Prim.Native.Nat.{ℕ, _<_}
+use Prim.Native.Nat.{ℕ, _*_, _≤_, _<_}
 use native.Mathlib.Omega.{arith}
-use borrow.Author.Tests.{eqb-true, leb-true}
+use borrow.Author.Tests.{eqb-true, leb-true, le-leb, eq-eqb}
+use lib.Dec.{eqb, lit<}
 use lib.ListN.{length, getD}
 use Rattle.run.specs.Parts.{part}
-use Rattle.run.proofs.Chain.{five-done, or-else-done, unless-done, chain-done}
+use Rattle.run.specs.First.{Every}
+use Rattle.run.specs.Verdicts.{done}
+use Rattle.run.proofs.Chain.{or-else-done, unless-done, chain-done, or-else-pass, unless-pass, AllRight, lengths-done, lengths-pass}
 use Rattle.run.proofs.Parts.{part-length}
 use Rattle.dpch.specs.Formats.{formatOf}
 use Rattle.slot.specs.Rule.{dataSize}
 use Rattle.slot.proofs.Accept.{FieldsOk, fields-ok, DigitsOk, digits-ok}
 use Rattle.slot.proofs.Exact.{command-bit}
-use Rattle.frame.specs.Outcome.{mapHead, mapVerdict, readHead, readVerdict}
+use Rattle.frame.specs.Outcome.{head, mapHead, mapVerdict, readHead, readVerdict}
 use Rattle.frame.specs.Ready.{Room, Bits}
+
+-- format and lengths, in the order of a call
+record Passed (format : ℕ) (right : List Bool) : Type 0 where
+  format-ok : format ≤ 16
+  right-ok : Every (λ (k : ℕ). getD right k true) (length right)
+
+passed : (format : ℕ) (right : List Bool) → head format right .number ≡ 0 → Passed format right
+unfolding head
+passed format right h =
+    let c = or-else-done _ _ h in
+    record { format-ok = leb-true _ _ (unless-done _ 1 0 (omega arith) (c .first)); right-ok = lengths-done right (c .rest) }
+
+-- whichever of the call's runs each of the four is
+headed : (format : ℕ) (right : List Bool) (dataLength tfciLength commandsLength frameLength : ℕ) → Passed format right
+    → eqb dataLength (15 * dataSize (formatOf format)) ≡ true → eqb tfciLength (15 * formatOf format .tfci) ≡ true
+    → eqb commandsLength 15 ≡ true → eqb frameLength (15 * formatOf format .slot) ≡ true
+    → Room format dataLength tfciLength commandsLength frameLength
+headed format right dataLength tfciLength commandsLength frameLength p d t c f =
+    record {
+      format-ok = p .format-ok;
+      fields = record { data-ok = eqb-true _ _ d; tfci-ok = eqb-true _ _ t; commands-ok = eqb-true _ _ c };
+      frame-ok = eqb-true _ _ f;
+    }
 
 pub map-headed : (format dataLength tfciLength outLength commandsLength : ℕ) → mapHead format dataLength tfciLength outLength commandsLength .number ≡ 0
     → Room format dataLength tfciLength commandsLength outLength
 unfolding mapHead
 map-headed format dataLength tfciLength outLength commandsLength h =
-    let c = five-done _ _ _ _ _ h in
-    record {
-      format-ok = leb-true _ _ (unless-done _ 1 0 (omega arith) (c .first));
-      fields = record {
-        data-ok = eqb-true _ _ (unless-done _ 3 0 (omega arith) (c .second));
-        tfci-ok = eqb-true _ _ (unless-done _ 3 1 (omega arith) (c .third));
-        commands-ok = eqb-true _ _ (unless-done _ 3 3 (omega arith) (c .fifth));
-      };
-      frame-ok = eqb-true _ _ (unless-done _ 3 2 (omega arith) (c .fourth));
-    }
+    let p = passed format _ h in
+    headed format _ dataLength tfciLength commandsLength outLength p (p .right-ok 0 (lit< tt)) (p .right-ok 1 (lit< tt)) (p .right-ok 3 (lit< tt)) (p .right-ok 2 (lit< tt))
 
 pub read-headed : (format frameLength dataLength tfciLength commandsLength : ℕ) → readHead format frameLength dataLength tfciLength commandsLength .number ≡ 0
     → Room format dataLength tfciLength commandsLength frameLength
 unfolding readHead
 read-headed format frameLength dataLength tfciLength commandsLength h =
-    let c = five-done _ _ _ _ _ h in
-    record {
-      format-ok = leb-true _ _ (unless-done _ 1 0 (omega arith) (c .first));
-      fields = record {
-        data-ok = eqb-true _ _ (unless-done _ 3 1 (omega arith) (c .third));
-        tfci-ok = eqb-true _ _ (unless-done _ 3 2 (omega arith) (c .fourth));
-        commands-ok = eqb-true _ _ (unless-done _ 3 3 (omega arith) (c .fifth));
-      };
-      frame-ok = eqb-true _ _ (unless-done _ 3 0 (omega arith) (c .second));
-    }
+    let p = passed format _ h in
+    headed format _ dataLength tfciLength commandsLength frameLength p (p .right-ok 1 (lit< tt)) (p .right-ok 2 (lit< tt)) (p .right-ok 3 (lit< tt)) (p .right-ok 0 (lit< tt))
+
+-- the other way: a format and lengths that pass
+head-pass : (format : ℕ) (right : List Bool) → format ≤ 16 → AllRight right → head format right ≡ done
+unfolding head
+head-pass format right h r = or-else-pass (unless-pass 1 0 (le-leb _ _ h)) (lengths-pass right r)
+
+pub map-head-pass : (format dataLength tfciLength outLength commandsLength : ℕ) → Room format dataLength tfciLength commandsLength outLength
+    → mapHead format dataLength tfciLength outLength commandsLength ≡ done
+unfolding mapHead
+map-head-pass format dataLength tfciLength outLength commandsLength r =
+    let f = r .fields in
+    head-pass format _ (r .format-ok) (eq-eqb _ _ (f .data-ok), (eq-eqb _ _ (f .tfci-ok), (eq-eqb _ _ (r .frame-ok), (eq-eqb _ _ (f .commands-ok), tt))))
+
+pub read-head-pass : (format frameLength dataLength tfciLength commandsLength : ℕ) → Room format dataLength tfciLength commandsLength frameLength
+    → readHead format frameLength dataLength tfciLength commandsLength ≡ done
+unfolding readHead
+read-head-pass format frameLength dataLength tfciLength commandsLength r =
+    let f = r .fields in
+    head-pass format _ (r .format-ok) (eq-eqb _ _ (r .frame-ok), (eq-eqb _ _ (f .data-ok), (eq-eqb _ _ (f .tfci-ok), (eq-eqb _ _ (f .commands-ok), tt))))
 
 -- fields that map takes
 pub record Mapped (format : ℕ) (d tfci : List ℕ) (outLength : ℕ) (commands : List ℕ) : Type 0 where

@@ -5,29 +5,27 @@ use mathlib.Core.Bool.{Bool}
 use mathlib.Core.List.{List}
 use Prim.Native.Nat.{ℕ, _*_, _<_}
 use native.Mathlib.Omega.{arith}
-use borrow.Author.Tests.{le-leb, eq-eqb}
 use lib.Dec.{lit<}
 use lib.ListN.{length, getD}
-use Rattle.run.specs.declared.Verdict.{Verdict}
 use Rattle.run.specs.Fields.{joined}
 use Rattle.run.specs.Parts.{part}
-use Rattle.run.specs.Verdicts.{done, orElse, unless, Narrow}
-use Rattle.run.proofs.Chain.{or-else-pass, unless-pass, chain-pass, or-else-narrow, unless-narrow, check-narrow, chain-narrow, one-outcome}
+use Rattle.run.specs.Verdicts.{done, Narrow}
+use Rattle.run.proofs.Chain.{or-else-pass, chain-pass, or-else-narrow, check-narrow, lengths-narrow, chain-narrow, one-outcome, number-0}
 use Rattle.run.proofs.Parts.{part-room, part-length, joined-part}
 use Rattle.run.proofs.Table.{tab-same, tab-is}
 use Rattle.dpch.specs.Formats.{formatOf}
 use Rattle.slot.specs.Rule as slot
 use Rattle.slot.specs.Rule.{dataSize, commandIn}
 use Rattle.slot.specs.Outcome as slot-outcome
-use Rattle.slot.proofs.Laws.{sound-format, data-small}
+use Rattle.slot.proofs.Laws.{sound-format, data-small, tfci-small}
 use Rattle.slot.proofs.Accept as slot-accept
 use Rattle.slot.proofs.Exact as slot-exact
 use Rattle.frame.specs.Rule.{slotAt, frameOf, dataIn, tfciIn, commandsIn}
-use Rattle.frame.specs.Outcome.{mapHead, slotFields, mapVerdict, readHead, slotDigits, readVerdict}
+use Rattle.frame.specs.Outcome.{head, mapHead, slotFields, mapVerdict, readHead, slotDigits, readVerdict}
 use Rattle.frame.specs.Ready.{Ready}
 use Rattle.frame.specs.Exact.{Gives, Fields, ReadExact, FrameSlots, MapOnce, ReadOnce, Packs}
-use Rattle.frame.proofs.Laws.{frame-length, frame-slot, data-of, tfci-of, data-in-length, tfci-in-length, commands-in-length, command-of, tfci-small}
-use Rattle.frame.proofs.Accept.{Mapped, mapped, Accepted, accepted, map-headed, read-headed}
+use Rattle.frame.proofs.Laws.{frame-length, frame-slot, data-of, tfci-of, data-in-length, tfci-in-length, commands-in-length, command-of}
+use Rattle.frame.proofs.Accept.{Mapped, mapped, Accepted, accepted, map-headed, read-headed, map-head-pass, read-head-pass}
 
 -- ---- what reading accepts, its fields give
 module _ (format : ℕ) (xs : List ℕ) (a : Accepted format xs (15 * dataSize (formatOf format)) (15 * formatOf format .tfci) 15) where
@@ -53,19 +51,17 @@ module _ (format : ℕ) (xs : List ℕ) (a : Accepted format xs (15 * dataSize (
       (slot-accept.fields-pass format _ _ _ _ _ _
       (slot-accept.mapped format k _ _ _ _
       (number-0 (slot-exact.read-maps format k (part k (formatOf format .slot) xs) (a .slots k h) (a .room .format-ok) (omega arith) (slot-long k h))) .fields))
-    where
-      number-0 : {v : Verdict} → v ≡ done → v .number ≡ 0
-      number-0 e = ap (λ (v : Verdict). v .number) e
 
   read-taken : mapVerdict format (dataIn (formatOf format) xs) (tfciIn (formatOf format) xs) (15 * formatOf format .slot) (commandsIn (formatOf format) xs) ≡ done
-  unfolding mapVerdict mapHead
+  unfolding mapVerdict
   read-taken =
       or-else-pass
-      (or-else-pass (unless-pass 1 0 (le-leb _ _ (a .room .format-ok)))
-      (or-else-pass (unless-pass 3 0 (eq-eqb _ _ (data-in-length format xs long)))
-      (or-else-pass (unless-pass 3 1 (eq-eqb _ _ (tfci-in-length format xs long)))
-      (or-else-pass (unless-pass 3 2 (eq-eqb (15 * formatOf format .slot) (15 * formatOf format .slot) refl))
-      (unless-pass 3 3 (eq-eqb _ _ (commands-in-length format xs long)))))))
+      (map-head-pass format _ _ _ _
+      (record {
+        format-ok = a .room .format-ok;
+        fields = record { data-ok = data-in-length format xs long; tfci-ok = tfci-in-length format xs long; commands-ok = commands-in-length format xs long };
+        frame-ok = refl;
+      }))
       (chain-pass 15 _ slot-fields)
 
 -- ---- what mapping gives, reading accepts, and gives the fields back
@@ -81,7 +77,7 @@ module _ (format : ℕ) (d tfci commands : List ℕ) (m : Mapped format d tfci (
   unfolding slot-outcome.mapVerdict
   slot-mapped k h =
       slot-accept.mapped format k _ _ _ _
-      (ap (λ (v : Verdict). v .number)
+      (number-0
       (or-else-pass
       (slot-accept.map-head-pass format k _ _ _ (m .room .format-ok) (omega arith) (part-length k 15 (dataSize (formatOf format)) d h (f-ok .data-ok)) (part-length k 15 (formatOf format .tfci) tfci h (f-ok .tfci-ok)) refl)
       (slot-accept.fields-pass format _ _ _ 0 0 0 (m .slots k h))))
@@ -92,14 +88,15 @@ module _ (format : ℕ) (d tfci commands : List ℕ) (m : Mapped format d tfci (
       (slot-accept.digits-pass format (formatOf format) k _ _ (slot-exact.mapped-digits-ok format k _ _ _ (slot-mapped k h)))
 
   mapped-accepted : readVerdict format (frameOf (formatOf format) d tfci commands) (15 * dataSize (formatOf format)) (15 * formatOf format .tfci) 15 ≡ done
-  unfolding readVerdict readHead
+  unfolding readVerdict
   mapped-accepted =
       or-else-pass
-      (or-else-pass (unless-pass 1 0 (le-leb _ _ (m .room .format-ok)))
-      (or-else-pass (unless-pass 3 0 (eq-eqb _ _ (frame-length format d tfci commands (f-ok .data-ok) (f-ok .tfci-ok))))
-      (or-else-pass (unless-pass 3 1 (eq-eqb (15 * dataSize (formatOf format)) (15 * dataSize (formatOf format)) refl))
-      (or-else-pass (unless-pass 3 2 (eq-eqb (15 * formatOf format .tfci) (15 * formatOf format .tfci) refl))
-      (unless-pass 3 3 (eq-eqb 15 15 refl))))))
+      (read-head-pass format _ _ _ _
+      (record {
+        format-ok = m .room .format-ok;
+        fields = record { data-ok = refl; tfci-ok = refl; commands-ok = refl };
+        frame-ok = frame-length format d tfci commands (f-ok .data-ok) (f-ok .tfci-ok);
+      }))
       (chain-pass 15 _ slot-digits)
 
   data-back : dataIn (formatOf format) (frameOf (formatOf format) d tfci commands) ≡ d
@@ -124,9 +121,6 @@ module _ (format : ℕ) (d tfci commands : List ℕ) (m : Mapped format d tfci (
       tab-same 15 _ (λ (k : ℕ). getD commands k 0)
       (λ k h. ap (commandIn (formatOf format)) (at-slot k h) ∙ slot-exact.command-back format k _ _ _ (slot-mapped k h))
       ∙ sym (tab-is 0 commands 15 (λ (k : ℕ). getD commands k 0) (f-ok .commands-ok) (λ k h. refl))
-
-number-0 : {v : Verdict} → v ≡ done → v .number ≡ 0
-number-0 e = ap (λ (v : Verdict). v .number) e
 
 given : {format : ℕ} {d tfci commands xs : List ℕ} → Gives format d tfci commands xs → Mapped format d tfci (15 * formatOf format .slot) commands
 given {format} {d} {tfci} {commands} g = mapped format d tfci (15 * formatOf format .slot) commands (number-0 (g .taken))
@@ -175,19 +169,15 @@ pub read-once : ReadOnce
 read-once format xs d tfci commands a b x y s t u v p r =
     (one-outcome (p .verdict-is) (r .verdict-is), one-outcome (p .data-is) (r .data-is), one-outcome (p .tfci-is) (r .tfci-is), one-outcome (p .commands-is) (r .commands-is))
 
--- format and lengths: 1 and four times 3
-head-narrow : (a b c d e : Bool) → Narrow (orElse (unless a 1 0) (orElse (unless b 3 0) (orElse (unless c 3 1) (orElse (unless d 3 2) (unless e 3 3)))))
-head-narrow a b c d e =
-    check-narrow a 1 0 _ (lit< tt) (lit< tt) (lit< tt)
-    (λ _. check-narrow b 3 0 _ (lit< tt) (lit< tt) (lit< tt)
-    (λ _. check-narrow c 3 1 _ (lit< tt) (lit< tt) (lit< tt)
-    (λ _. check-narrow d 3 2 _ (lit< tt) (lit< tt) (lit< tt)
-    (λ _. unless-narrow e 3 3 (lit< tt) (lit< tt)))))
+-- format and lengths: 1 and 3
+head-narrow : (format : ℕ) (right : List Bool) → length right < 4294967296 → Narrow (head format right)
+unfolding head
+head-narrow format right h = check-narrow _ 1 0 _ (lit< tt) (lit< tt) (lit< tt) (λ _. lengths-narrow right h)
 
 map-narrow : (format : ℕ) (d tfci : List ℕ) (outLength : ℕ) (commands : List ℕ) → Narrow (mapVerdict format d tfci outLength commands)
 unfolding mapVerdict mapHead
 map-narrow format d tfci outLength commands =
-    or-else-narrow _ _ (head-narrow _ _ _ _ _)
+    or-else-narrow _ _ (head-narrow format _ (lit< tt))
     (λ e. chain-narrow 15 _ (λ k h.
     let r = map-headed format (length d) (length tfci) outLength (length commands) e .fields in
     let n = part-length k 15 (dataSize (formatOf format)) d h (r .data-ok) in
@@ -201,7 +191,7 @@ map-narrow format d tfci outLength commands =
 read-narrow : (format : ℕ) (xs : List ℕ) (dataLength tfciLength commandsLength : ℕ) → Narrow (readVerdict format xs dataLength tfciLength commandsLength)
 unfolding readVerdict readHead
 read-narrow format xs dataLength tfciLength commandsLength =
-    or-else-narrow _ _ (head-narrow _ _ _ _ _)
+    or-else-narrow _ _ (head-narrow format _ (lit< tt))
     (λ e. chain-narrow 15 _ (λ k h.
     let room = read-headed format (length xs) dataLength tfciLength commandsLength e in
     let a = part-room k 15 (formatOf format .slot) h in

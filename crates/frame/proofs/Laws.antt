@@ -2,38 +2,30 @@
 -- Assumes nothing.
 use mathlib.Core.Path.{_≡_, refl, sym, ap, _∙_, subst}
 use mathlib.Core.List.{List}
-use Prim.Native.Nat.{ℕ, _+_, _-_, _*_, _≤_, _<_}
+use Prim.Native.Nat.{ℕ, _+_, _-_, _*_, _<_}
 use native.Mathlib.Omega.{arith}
 use borrow.Rule.Slice.PartMut.{putMid, midOf}
 use lib.ListN.{length, getD, take, drop}
 use lib.Dec.{lit<}
 use Rattle.run.specs.declared.Verdict.{Verdict}
 use Rattle.run.specs.Parts.{part}
-use Rattle.run.specs.Verdicts.{done, leaves}
-use Rattle.run.proofs.Chain.{leaves-done}
+use Rattle.run.specs.Verdicts.{leaves}
+use Rattle.run.proofs.Chain.{leaves-done, number-0}
 use Rattle.run.proofs.Front.{Front, front-part, front-lent}
 use Rattle.run.proofs.Parts.{part-room, part-next, part-length, part-lent, joined-tab-length, part-joined}
 use Rattle.run.proofs.Table.{tab-length, tab-at}
 use Rattle.dpch.specs.Formats.{formatOf}
+use Rattle.slot.specs.declared.Command.{Command}
 use Rattle.slot.specs.Rule as slot
 use Rattle.slot.specs.Rule.{dataSize, slotOf, commandIn}
 use Rattle.slot.specs.Outcome as slot-outcome
-use Rattle.slot.specs.Outcome.{fieldsVerdict, partVerdict}
+use Rattle.slot.specs.Outcome.{fieldsVerdict, partVerdict, Take}
 use Rattle.slot.specs.Ready.{Whole}
 use Rattle.slot.proofs.Accept.{map-head-pass, read-head-pass}
-use Rattle.slot.proofs.Laws.{sum, sound-format, slot-length, data-length, field-long, part-whole}
+use Rattle.slot.proofs.Laws.{sound-format, slot-length, data-length, field-long, part-whole}
 use Rattle.frame.specs.Rule.{slotAt, frameOf, dataIn, tfciIn, commandsIn}
 use Rattle.frame.specs.Outcome.{slotFields, slotDigits}
 use Rattle.frame.specs.Ready.{Room}
-
-number-0 : {v : Verdict} → v ≡ done → v .number ≡ 0
-number-0 e = ap (λ (v : Verdict). v .number) e
-
-pub tfci-small : (format : ℕ) → formatOf format .tfci ≤ 1280
-tfci-small format =
-    let n = sum (formatOf format) (sound-format format) in
-    let short = sound-format format .short in
-    omega arith
 
 -- the k-th command, data and TFCI as they are lent: the checks of slot k
 pub fields-at : (format : ℕ) (d tfci commands : List ℕ) (k n m : ℕ) (r : Verdict) → n ≡ dataSize (formatOf format) → m ≡ formatOf format .tfci
@@ -162,22 +154,26 @@ module _ (format : ℕ) (xs d t c x u : List ℕ) (k n m w : ℕ) (room : Room f
   lent-slot : take (k * w + w - k * w) (drop (k * w) xs) ≡ part k (formatOf format .slot) xs
   lent-slot = lent-is k w xs h xs-long ∙ ap (λ (j : ℕ). part k j xs) r
 
-  pub taken-head : slot-outcome.readHead format k (length (take (k * w + w - k * w) (drop (k * w) xs))) (length (midOf (k * n) (k * n + n - k * n) x)) (length (midOf (k * m) (k * m + m - k * m) u)) .number ≡ 0
-  taken-head =
+  -- what is known of the runs once slot k is taken
+  pub record Back (answer : Command) (y v : List ℕ) : Type 0 where
+    pub data-back : Front (dataIn (formatOf format) xs) d (putMid (k * n) (k * n + n - k * n) x y) ((k + 1) * n)
+    pub tfci-back : Front (tfciIn (formatOf format) xs) t (putMid (k * m) (k * m + m - k * m) u v) ((k + 1) * m)
+    pub command-back : answer .tpc ≡ getD (commandsIn (formatOf format) xs) k 0
+
+  pub slot-back : (answer : Command) (y v : List ℕ)
+      → Take format k (take (k * w + w - k * w) (drop (k * w) xs)) (midOf (k * n) (k * n + n - k * n) x) (midOf (k * m) (k * m + m - k * m) u) answer y v
+      → Back answer y v
+  slot-back answer y v e =
+      let head =
       number-0
       (read-head-pass format k _ _ _ (room .format-ok) (omega arith) (lent-length k w xs h xs-long ∙ r) (lent-part k n h d-long f ∙ p) (lent-part k m h t-long g ∙ q))
-
-  pub data-taken : (y : List ℕ) → y ≡ slot.dataIn (formatOf format) (take (k * w + w - k * w) (drop (k * w) xs))
-      → Front (dataIn (formatOf format) xs) d (putMid (k * n) (k * n + n - k * n) x y) ((k + 1) * n)
-  data-taken y e =
-      one-part k n h d-long f
-      (e ∙ ap (slot.dataIn (formatOf format)) lent-slot ∙ sym (data-of format xs (room .frame-ok) k h) ∙ ap (λ (j : ℕ). part k j (dataIn (formatOf format) xs)) (sym p))
-
-  pub tfci-taken : (y : List ℕ) → y ≡ slot.tfciIn (formatOf format) (take (k * w + w - k * w) (drop (k * w) xs))
-      → Front (tfciIn (formatOf format) xs) t (putMid (k * m) (k * m + m - k * m) u y) ((k + 1) * m)
-  tfci-taken y e =
-      one-part k m h t-long g
-      (e ∙ ap (slot.tfciIn (formatOf format)) lent-slot ∙ sym (tfci-of format xs (room .frame-ok) k h) ∙ ap (λ (j : ℕ). part k j (tfciIn (formatOf format) xs)) (sym q))
-
-  pub command-taken : (v : ℕ) → v ≡ commandIn (formatOf format) (take (k * w + w - k * w) (drop (k * w) xs)) → v ≡ getD (commandsIn (formatOf format) xs) k 0
-  command-taken v e = e ∙ ap (commandIn (formatOf format)) lent-slot ∙ sym (command-of format xs (room .frame-ok) k h)
+      in
+      record {
+        data-back = one-part k n h d-long f
+            (e .data-is ∙ leaves-done _ _ _ head ∙ ap (slot.dataIn (formatOf format)) lent-slot ∙ sym (data-of format xs (room .frame-ok) k h)
+            ∙ ap (λ (j : ℕ). part k j (dataIn (formatOf format) xs)) (sym p));
+        tfci-back = one-part k m h t-long g
+            (e .tfci-is ∙ leaves-done _ _ _ head ∙ ap (slot.tfciIn (formatOf format)) lent-slot ∙ sym (tfci-of format xs (room .frame-ok) k h)
+            ∙ ap (λ (j : ℕ). part k j (tfciIn (formatOf format) xs)) (sym q));
+        command-back = e .command-is ∙ leaves-done _ _ _ head ∙ ap (commandIn (formatOf format)) lent-slot ∙ sym (command-of format xs (room .frame-ok) k h);
+      }

@@ -2,26 +2,32 @@
 -- Assumes nothing.
 use Prim.Native.Nat.{ℕ, _*_}
 use mathlib.Core.Path.{_≡_}
-use mathlib.Core.List.{List}
+use mathlib.Core.Bool.{Bool}
+use mathlib.Core.List.{List, [], _∷_}
 use lib.ListN.{length, getD}
 use lib.Dec.{eqb, leb}
 use Rattle.run.specs.declared.Verdict.{Verdict}
 use Rattle.run.specs.Parts.{part}
-use Rattle.run.specs.Refusals.{formatRefused, lengthRefused}
-use Rattle.run.specs.Verdicts.{orElse, unless, chain, leaves}
+use Rattle.run.specs.Refusals.{formatRefused}
+use Rattle.run.specs.Verdicts.{orElse, unless, lengths, chain, leaves}
 use Rattle.dpch.specs.Formats.{formatOf}
 use Rattle.slot.specs.Rule.{dataSize}
 use Rattle.slot.specs.Outcome.{fieldsVerdict, digitsVerdict}
 use Rattle.frame.specs.Rule.{frameOf, dataIn, tfciIn, commandsIn}
 
+-- format and lengths: 1, then 3 at the first run whose length is not right
+unfoldable pub head : ℕ → List Bool → Verdict
+head format right = orElse (unless (leb format 16) formatRefused 0) (lengths right)
+
 -- map: 1, 3 (data, TFCI, output, commands) ..
 unfoldable pub mapHead : ℕ → ℕ → ℕ → ℕ → ℕ → Verdict
 mapHead format dataLength tfciLength outLength commandsLength =
-    orElse (unless (leb format 16) formatRefused 0)
-    (orElse (unless (eqb dataLength (15 * dataSize (formatOf format))) lengthRefused 0)
-    (orElse (unless (eqb tfciLength (15 * formatOf format .tfci)) lengthRefused 1)
-    (orElse (unless (eqb outLength (15 * formatOf format .slot)) lengthRefused 2)
-    (unless (eqb commandsLength 15) lengthRefused 3))))
+    head format
+    (eqb dataLength (15 * dataSize (formatOf format))
+    ∷ eqb tfciLength (15 * formatOf format .tfci)
+    ∷ eqb outLength (15 * formatOf format .slot)
+    ∷ eqb commandsLength 15
+    ∷ [])
 
 -- .. then slot by slot, as for a slot: 5 at the slot, the other places in the whole runs
 abbrev pub slotFields : ℕ → List ℕ → List ℕ → List ℕ → ℕ → Verdict
@@ -40,11 +46,12 @@ pub record Map (format : ℕ) (d tfci out commands : List ℕ) (answer : Verdict
 -- read: 1, 3 (frame, data, TFCI, commands) ..
 unfoldable pub readHead : ℕ → ℕ → ℕ → ℕ → ℕ → Verdict
 readHead format frameLength dataLength tfciLength commandsLength =
-    orElse (unless (leb format 16) formatRefused 0)
-    (orElse (unless (eqb frameLength (15 * formatOf format .slot)) lengthRefused 0)
-    (orElse (unless (eqb dataLength (15 * dataSize (formatOf format))) lengthRefused 1)
-    (orElse (unless (eqb tfciLength (15 * formatOf format .tfci)) lengthRefused 2)
-    (unless (eqb commandsLength 15) lengthRefused 3))))
+    head format
+    (eqb frameLength (15 * formatOf format .slot)
+    ∷ eqb dataLength (15 * dataSize (formatOf format))
+    ∷ eqb tfciLength (15 * formatOf format .tfci)
+    ∷ eqb commandsLength 15
+    ∷ [])
 
 -- .. then slot by slot, as for a slot; places index the frame
 abbrev pub slotDigits : ℕ → List ℕ → ℕ → Verdict

@@ -6,16 +6,6 @@ use mathlib.Core.List.{List}
 use Rattle.run.specs.Parts.{part}
 use Rattle.dpch.specs.Formats.{formatOf}
 use Rattle.slot.specs.Rule.{dataSize, commandIn}
-use Rattle.frame.specs.declared.Sizes.{Sizes}
-
--- the lengths of one slot's runs
-pub record SizesOf (format : ℕ) (s : Sizes) : Type 0 where
-  pub data-is : s .«data» ≡ dataSize (formatOf format)
-  pub tfci-is : s .tfci ≡ formatOf format .tfci
-  pub slot-is : s .slot ≡ formatOf format .slot
-  pub data-short : s .«data» ≤ 1280
-  pub tfci-short : s .tfci ≤ 1280
-  pub slot-short : s .slot ≤ 1280
 
 -- the runs of a frame's fields have their lengths
 pub record Ready (format dataLength tfciLength commandsLength : ℕ) : Type 0 where

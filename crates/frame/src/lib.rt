@@ -1,20 +1,58 @@
-// A frame of the downlink DPCH, fifteen slots of one format: its rule, promises and theorems, and the lengths of its parts: docs/RULES.md, 'DPCH slot'; TS 25.211, 5.3.2.
-ghost use Rattle.frame.specs.Ready.{SizesOf};
+// A frame of the downlink DPCH, fifteen slots of one format: its rule, promises and theorems, and the checks of format and lengths: docs/RULES.md, 'DPCH slot'; TS 25.211, 5.3.2.
+use run::Verdict;
+use run::lengths;
+use run::or_else;
+use run::refusal;
+use run::unless;
+use slot::sizes_of;
+ghost use mathlib.Core.Path.{_≡_};
+ghost use mathlib.Core.List.{[], _∷_};
+ghost use Rattle.frame.specs.Outcome.{head, mapHead, readHead};
 
-// The lengths of one slot's runs.
-pub struct Sizes {
-    pub data: usize,
-    pub tfci: usize,
-    pub slot: usize,
+// The check of the format, then of the lengths of a call's four runs, in the order of the call.
+fn head(format: usize, first: bool, second: bool, third: bool, fourth: bool) -> Verdict
+    ensures { λ r. ⌜ r ≡ head format (first ∷ second ∷ third ∷ fourth ∷ []) ⌝ }
+{
+    let right = lengths(first, second, third, fourth);
+    or_else(unless(format <= 16, refusal::FORMAT, 0), right)
 }
 
-pub fn sizes_of(format: usize) -> Sizes
-    ensures { λ r. ⌜ SizesOf format r ⌝ }
+// The checks of format and lengths before a frame is mapped.
+pub fn map_head(
+    format: usize,
+    data_length: usize,
+    tfci_length: usize,
+    out_length: usize,
+    commands_length: usize,
+) -> Verdict
+    ensures { λ r. ⌜ r ≡ mapHead format «data_length» «tfci_length» «out_length» «commands_length» ⌝ }
 {
-    let f = dpch::format_of(format);
-    Sizes {
-        data: f.data1 + f.data2,
-        tfci: f.tfci,
-        slot: f.slot,
-    }
+    let s = sizes_of(format);
+    head(
+        format,
+        data_length == 15 * s.data,
+        tfci_length == 15 * s.tfci,
+        out_length == 15 * s.slot,
+        commands_length == 15,
+    )
+}
+
+// The checks of format and lengths before a frame is read.
+pub fn read_head(
+    format: usize,
+    frame_length: usize,
+    data_length: usize,
+    tfci_length: usize,
+    commands_length: usize,
+) -> Verdict
+    ensures { λ r. ⌜ r ≡ readHead format «frame_length» «data_length» «tfci_length» «commands_length» ⌝ }
+{
+    let s = sizes_of(format);
+    head(
+        format,
+        frame_length == 15 * s.slot,
+        data_length == 15 * s.data,
+        tfci_length == 15 * s.tfci,
+        commands_length == 15,
+    )
 }

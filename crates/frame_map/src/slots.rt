@@ -1,6 +1,6 @@
 // The fifteen slots of a frame, one after the other: each is lent its own part of every run.
-use frame::sizes_of;
 use run::Verdict;
+use slot::sizes_of;
 ghost use mathlib.Core.Path.{_≡_};
 ghost use lib.ListN.{length};
 ghost use Rattle.run.specs.Verdicts.{chain};

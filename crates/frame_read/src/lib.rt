@@ -1,40 +1,9 @@
 // A frame of the downlink DPCH, read (rule, promises and theorems are those of the crate `frame`): docs/RULES.md, 'DPCH slot'; TS 25.211, 5.3.2.
-use frame::sizes_of;
 use run::Verdict;
-use run::or_else;
-use run::refusal;
-use run::unless;
 ghost use mathlib.Core.Path.{_≡_};
-ghost use Rattle.frame.specs.Outcome.{readHead, readVerdict, Read};
+ghost use Rattle.frame.specs.Outcome.{readVerdict, Read};
 
 mod slots;
-
-// The checks of format and lengths.
-fn read_head(
-    format: usize,
-    frame_length: usize,
-    data_length: usize,
-    tfci_length: usize,
-    commands_length: usize,
-) -> Verdict
-    ensures { λ r. ⌜ r ≡ readHead format «frame_length» «data_length» «tfci_length» «commands_length» ⌝ }
-{
-    let s = sizes_of(format);
-    let fourth = unless(commands_length == 15, refusal::LENGTH, 3);
-    let third = or_else(
-        unless(tfci_length == 15 * s.tfci, refusal::LENGTH, 2),
-        fourth,
-    );
-    let second = or_else(
-        unless(data_length == 15 * s.data, refusal::LENGTH, 1),
-        third,
-    );
-    let lengths = or_else(
-        unless(frame_length == 15 * s.slot, refusal::LENGTH, 0),
-        second,
-    );
-    or_else(unless(format <= 16, refusal::FORMAT, 0), lengths)
-}
 
 fn read_verdict(
     format: usize,
@@ -45,7 +14,7 @@ fn read_verdict(
 ) -> Verdict
     ensures { λ r. ⌜ r ≡ readVerdict format (now (xs .entry)) «data_length» «tfci_length» «commands_length» ⌝ }
 {
-    let head = read_head(format, xs.len(), data_length, tfci_length, commands_length);
+    let head = frame::read_head(format, xs.len(), data_length, tfci_length, commands_length);
     if head.number != 0 {
         return head;
     }

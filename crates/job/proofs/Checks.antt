@@ -1,6 +1,6 @@
 -- Checks of a file's own bytes and of a line's room: what is known where one passes.
 -- Assumes nothing.
-use mathlib.Core.Path.{_≡_, refl, sym, ap, _∙_}
+use mathlib.Core.Path.{_≡_, refl, sym, _∙_}
 use mathlib.Core.Bool.{Bool, true, false}
 use mathlib.Core.List.{List}
 use Prim.Native.Nat.{ℕ, _≤_, _<_}
@@ -9,7 +9,7 @@ use borrow.Author.Tests.{ltb-true, le-leb}
 use lib.ListN.{length}
 use Rattle.run.specs.declared.Verdict.{Verdict}
 use Rattle.run.specs.Verdicts.{orElse}
-use Rattle.run.proofs.Chain.{or-else-done, unless-pass, leaves-done}
+use Rattle.run.proofs.Chain.{or-else-done, unless-pass, leaves-done, number-0}
 use Rattle.lines.specs.Outcome.{lineSize, room, Prints}
 use Rattle.lines.proofs.Checks.{room-done}
 use Rattle.job.specs.declared.fault.Fault.{Fault}
@@ -42,7 +42,7 @@ then-passed {b} {t} u v e q h = rw q at (or-else-done u b (rw e at h) .rest)
 
 -- a line with room for one call has room for another
 pub room-passes : (place lineLength : ℕ) → lineSize ≤ lineLength → room place lineLength .number ≡ 0
-room-passes place lineLength h = ap (λ (v : Verdict). v .number) (unless-pass 3 place (le-leb lineSize lineLength h))
+room-passes place lineLength h = number-0 (unless-pass 3 place (le-leb lineSize lineLength h))
 
 pub open-room : (file : List ℕ) (lineLength : ℕ) → openVerdict file lineLength .number ≡ 0 → room 0 lineLength .number ≡ 0
 unfolding openVerdict

@@ -10,7 +10,7 @@ use borrow.Author.Tests.{leb-true}
 use lib.ListN.{length, getD, take, drop}
 use Rattle.run.specs.declared.Verdict.{Verdict}
 use Rattle.run.specs.Verdicts.{orElse, leaves}
-use Rattle.run.proofs.Chain.{five-done, or-else-done, or-else-next, unless-pass, leaves-refused}
+use Rattle.run.proofs.Chain.{five-done, or-else-done, or-else-next, unless-pass, leaves-refused, number-0}
 use Rattle.run.proofs.Lent.{part-width, part-length, part-at}
 use Rattle.lines.specs.declared.Told.{Told}
 use Rattle.kinds.specs.Rule.{isKind, secondVerdict}
@@ -85,7 +85,7 @@ module _ (file line : List ℕ) (offset : ℕ) {t : Verdict} (e : t ≡ orElse (
   unfolding lineVerdict runVerdict recordVerdict
   run-is h =
       let whole = record-whole file offset (run-headed h) in
-      or-else-next _ _ (ap (λ (v : Verdict). v .number) (unless-pass 3 0 whole))
+      or-else-next _ _ (number-0 (unless-pass 3 0 whole))
       ∙ or-else-next _ _ (or-else-done _ _ (rw e at h) .first)
       ∙ then-next _ _ _ e refl refl h
 

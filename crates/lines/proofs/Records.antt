@@ -160,13 +160,8 @@ unfolding sizeOf
 whole-aich r w e = record { aich = e; sized = w .sized ∙ by-aich _ _ _ _ e }
 
 pub whole-pich : (r : List ℕ) → Whole r → getD r 0 0 ≡ 2 → PichRecord r
-unfolding sizeOf secondVerdict
-whole-pich r w e =
-    record {
-      pich = e;
-      np-ok = unless-done _ 8 0 (lit< tt) (rw (by-pich (getD r 0 0) _ _ _ e) at (w .second-ok));
-      sized = w .sized ∙ by-pich _ _ _ _ e;
-    }
+unfolding sizeOf
+whole-pich r w e = record { pich = e; sized = w .sized ∙ by-pich _ _ _ _ e }
 
 pub whole-dpch : (r : List ℕ) → Whole r → (getD r 0 0 ≡ 1 → ⊥) → (getD r 0 0 ≡ 2 → ⊥) → DpchRecord r
 unfolding sizeOf secondVerdict

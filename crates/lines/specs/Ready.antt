@@ -10,7 +10,6 @@ use Rattle.run.specs.declared.Verdict.{Verdict}
 use Rattle.run.specs.Verdicts.{leaves}
 use Rattle.slot.specs.Rule.{dataSize, slotOf}
 use Rattle.slot.specs.Outcome.{mapVerdict as slotVerdict}
-use Rattle.pich.specs.Rule.{isNp}
 use Rattle.kinds.specs.Rule.{aichKind, pichKind, dpchKind, isKind, sizeOf, secondVerdict}
 use Rattle.lines.specs.Rule.{secondOf, slotNumberOf, tpcOf, dataOf, tfciOf}
 use Rattle.lines.specs.Outcome.{lineSize}
@@ -28,7 +27,6 @@ pub record AichRecord (r : List ℕ) : Type 0 where
 
 pub record PichRecord (r : List ℕ) : Type 0 where
   pub pich : getD r 0 0 ≡ pichKind
-  pub np-ok : isNp (secondOf r) ≡ true
   pub sized : length r ≡ 2 + secondOf r
 
 pub record DpchRecord (r : List ℕ) : Type 0 where

@@ -6,12 +6,12 @@ use Rattle.run.specs.Fields.{joined}
 use Rattle.run.specs.First.{firstBad}
 use Rattle.run.specs.Ranges.{between}
 use Rattle.run.specs.Table.{tab}
-use Rattle.run.specs.Verdicts.{orElse, unless, each, leaves}
+use Rattle.run.specs.Verdicts.{orElse, unless, each, lengths, leaves}
 use Rattle.whole.specs.Sum.{sum}
 use Rattle.dpch.specs.Formats.{formats, formatOf}
 use Rattle.dpch.specs.Pilots.{symbols1, symbols3, symbols5, symbols7, symbolsOf, symbolsFor, pilotOf}
 use Rattle.slot.specs.Rule.{fieldsOf, slotOf, tfciStands}
-use Rattle.slot.specs.Outcome.{mapHead, fieldsVerdict, mapVerdict as slotVerdict}
+use Rattle.slot.specs.Outcome.{head as slotHead, mapHead, fieldsVerdict, mapVerdict as slotVerdict}
 use Rattle.sttd.specs.Rule.{sttd, barDigit}
 use Rattle.sttd.specs.Outcome.{digitsVerdict}
 use Rattle.pich.specs.Rule.{isNp, qOf}
@@ -25,5 +25,5 @@ use Rattle.combiner.specs.Demand3.{clean}
 use Rattle.marked.specs.Table.{table, MarkedExamples}
 
 pub marked-examples : MarkedExamples
-unfolding table leaves orElse unless each firstBad between tab joined sum ones formats formatOf symbols1 symbols3 symbols5 symbols7 symbolsOf symbolsFor pilotOf fieldsOf slotOf tfciStands mapHead fieldsVerdict slotVerdict sttd barDigit digitsVerdict isNp qOf qVerdict isPlus sign valueAt valuesOf correlation unit indicatorsIn aichVerdict given readHead aichReadVerdict partOf combinedAt combined numberOf numbersOf someGain combineHead combineBody combineVerdict clean
+unfolding table leaves orElse unless each lengths firstBad between tab joined sum ones formats formatOf symbols1 symbols3 symbols5 symbols7 symbolsOf symbolsFor pilotOf fieldsOf slotOf tfciStands slotHead mapHead fieldsVerdict slotVerdict sttd barDigit digitsVerdict isNp qOf qVerdict isPlus sign valueAt valuesOf correlation unit indicatorsIn aichVerdict given readHead aichReadVerdict partOf combinedAt combined numberOf numbersOf someGain combineHead combineBody combineVerdict clean
 marked-examples slot tpc tfci d lent = record { all-twelve = refl; as-said = refl }

@@ -33,7 +33,6 @@ pub record Headed (antenna1 antenna2 : List ℕ) (dataLength : ℕ) : Type 0 whe
   pub second-ok : length antenna2 ≡ 300
   pub data-ok : dataLength ≡ 270
   pub digits1-ok : Every (atMost 2 antenna1) (length antenna1)
-  pub digits2-ok : Every (atMost 2 antenna2) (length antenna2)
 
 pub headed : (antenna1 antenna2 : List ℕ) (dataLength : ℕ) → readHead antenna1 antenna2 dataLength .number ≡ 0 → Headed antenna1 antenna2 dataLength
 unfolding readHead
@@ -44,7 +43,6 @@ headed antenna1 antenna2 dataLength h =
       second-ok = eqb-true _ _ (unless-done _ 3 1 (omega arith) (c .second));
       data-ok = eqb-true _ _ (unless-done _ 3 2 (omega arith) (c .third));
       digits1-ok = each-done 0 4 _ _ (omega arith) (c .fourth);
-      digits2-ok = each-done 300 4 _ _ (omega arith) (c .fifth);
     }
 
 pub record Accepted (antenna1 antenna2 : List ℕ) (dataLength : ℕ) : Type 0 where

@@ -10,11 +10,10 @@ use borrow.Author.Tests.{eqb-true, eqb-false, leb-true, ltb-true, ltb-false, lt-
 use lib.Dec.{lit<}
 use lib.ListN.{length, getD}
 use lib.Seq.{ext-getD}
-use Rattle.run.specs.declared.Verdict.{Verdict}
 use Rattle.run.specs.Digits.{dtx}
 use Rattle.run.specs.First.{Every, atMost}
 use Rattle.run.specs.Verdicts.{done, Narrow}
-use Rattle.run.proofs.Chain.{or-else-pass, unless-pass, each-pass, or-else-narrow, check-narrow, each-narrow, one-outcome}
+use Rattle.run.proofs.Chain.{or-else-pass, unless-pass, each-pass, or-else-narrow, check-narrow, each-narrow, one-outcome, number-0}
 use Rattle.run.proofs.First.{no-diff, diff-none}
 use Rattle.sttd.specs.Rule.{sttd, barDigit}
 use Rattle.sttd.proofs.Bars.{bar-keeps-bit}
@@ -161,9 +160,6 @@ module _ (digits : List ℕ) (t : Taken digits 300 300) where
       (each-pass 300 4 _ _ (λ k l. le-leb _ 2 (second-small k (rw m at l))))))))
       (or-else-pass (each-pass 0 9 _ _ (frame-kinds digits bits))
       (each-pass 300 9 _ _ (diff-none _ _ 300 (ap secondOf mapped-back))))
-
-number-0 : {v : Verdict} → v ≡ done → v .number ≡ 0
-number-0 e = ap (λ (v : Verdict). v .number) e
 
 given : {digits antenna1 antenna2 : List ℕ} → Gives digits antenna1 antenna2 → Taken digits 300 300
 given {digits} g = taken digits 300 300 (number-0 (g .taken))

@@ -10,12 +10,11 @@ use borrow.Author.Tests.{eqb-true, eqb-false, leb-true, ltb-true, ltb-false, lt-
 use lib.Dec.{eqb, ltb, lit<}
 use lib.ListN.{length, getD}
 use lib.Seq.{ext-getD}
-use Rattle.run.specs.declared.Verdict.{Verdict}
 use Rattle.run.specs.Digits.{dtx}
 use Rattle.run.specs.First.{Every, atMost}
 use Rattle.run.specs.Verdicts.{done, leaves, Narrow}
 use Rattle.run.proofs.Bools.{and-left, and-right}
-use Rattle.run.proofs.Chain.{or-else-pass, unless-pass, each-pass, or-else-narrow, unless-narrow, check-narrow, each-narrow, leaves-done, leaves-refused, one-outcome}
+use Rattle.run.proofs.Chain.{or-else-pass, unless-pass, each-pass, or-else-narrow, unless-narrow, check-narrow, each-narrow, leaves-done, leaves-refused, one-outcome, number-0}
 use Rattle.pich.specs.declared.Pi.{Pi}
 use Rattle.pich.specs.Rule.{width, frameOf, indicatorsIn, qOf}
 use Rattle.pich.specs.Outcome.{qVerdict, mapVerdict, stands, readHead, readVerdict}
@@ -137,9 +136,6 @@ module _ (np : ℕ) (indicators : List ℕ) (t : Taken np indicators 300) where
           indicator-at np (frameOf np indicators) q h
           ∙ ap (λ (n : ℕ). getD (frameOf np indicators) n 0) (sym (add-zero (width np * q)))
           ∙ filled-at np indicators (t .np-ok) q 0 h (groups np (t .np-ok) .wide)
-
-number-0 : {v : Verdict} → v ≡ done → v .number ≡ 0
-number-0 e = ap (λ (v : Verdict). v .number) e
 
 given : {np : ℕ} {indicators frame : List ℕ} → Gives np indicators frame → Taken np indicators 300
 given {np} {indicators} g = taken np indicators 300 (number-0 (g .taken))

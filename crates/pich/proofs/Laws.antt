@@ -1,26 +1,23 @@
 -- Laws of the four numbers of indicators, and of a frame's groups of digits.
 -- Assumes nothing.
-use mathlib.Core.Path.{_≡_, refl, ap, _∙_}
-use mathlib.Core.Bool.{Bool, true, false, _||_}
+use mathlib.Core.Path.{_≡_, ap, _∙_}
+use mathlib.Core.Bool.{true, false}
 use mathlib.Core.List.{List}
 use mathlib.Core.Logic.{_⊎_, inl, inr, ⊎-elim}
 use Prim.Native.Nat.{ℕ, _+_, _*_, _/_, _%_, _≤_, _<_}
-use native.Mathlib.Nat.{mul-le-mul}
+use native.Mathlib.Nat.{mul-le-mul, mul-le-mul-left, div-mul-le-self}
 use native.Mathlib.Omega.{arith}
 use borrow.Author.Tests.{eqb-true, ltb-true, ne-eqb, lt-ltb, le-ltb}
 use lib.Dec.{eqb}
 use lib.ListN.{length, getD}
 use Rattle.run.specs.Digits.{dtx}
 use Rattle.run.specs.First.{Every, atMost}
+use Rattle.run.proofs.Bools.{either}
 use Rattle.run.proofs.Chain.{four-done, or-else-done, unless-done, each-done}
 use Rattle.run.proofs.Table.{tab-length, tab-at}
-use Rattle.pich.specs.Rule.{isNp, width, frameOf, indicatorsIn}
+use Rattle.pich.specs.Rule.{isNp, width, firstDigit, frameOf, indicatorsIn}
 use Rattle.pich.specs.declared.Pi.{Pi}
 use Rattle.pich.specs.Outcome.{qVerdict, mapVerdict, stands, readHead, readVerdict}
-
-either : (a b : Bool) {X : Type 0} → (a || b) ≡ true → (a ≡ true → X) → (b ≡ true → X) → X
-either true b e f g = f refl
-either false b e f g = g e
 
 -- what holds at 18, 36, 72 and 144 holds at every Np
 pub at-each : (P : ℕ → Type 0) → P 18 → P 36 → P 72 → P 144 → (np : ℕ) → isNp np ≡ true → P np
@@ -38,7 +35,6 @@ pub record Groups (np : ℕ) : Type 0 where
   pub some : 0 < np
   pub few : np ≤ 144
   pub wide : 0 < width np
-  pub narrow : width np ≤ 16
   pub whole : width np * np ≡ 288
   pub inside : (q : ℕ) → q < np → width np * q + width np ≤ 288
   pub next : (q : ℕ) → width np * q + width np ≡ width np * (q + 1)
@@ -47,6 +43,25 @@ pub record Groups (np : ℕ) : Type 0 where
 
 pub groups : (np : ℕ) → isNp np ≡ true → Groups np
 groups = at-each Groups (omega arith) (omega arith) (omega arith) (omega arith)
+
+-- a stretch of any number of indicators begins within 288 digits
+pub begins-within : (np q : ℕ) → q < np → width np * q ≤ 288
+begins-within np q h =
+    let below : 288 / np * q ≤ 288 / np * np = mul-le-mul-left (288 / np) (omega arith) in
+    let whole = div-mul-le-self 288 np in
+    omega arith
+
+-- an indicator of the frame: where it begins, and that it ends before the tail
+pub record Stretch (np q start : ℕ) : Type 0 where
+  pub begins : start ≡ width np * q
+  pub inside : start + width np ≤ 288
+
+pub stretch : (np q start : ℕ) → isNp np ≡ true → q < np → start ≡ firstDigit np q → Stretch np q start
+unfolding firstDigit
+stretch np q start ok h e =
+    let begins : start ≡ width np * q = e ∙ rw (lt-ltb q np h) in
+    let room = groups np ok .inside q h in
+    record { begins = begins; inside = omega arith }
 
 pub np-named : (np : ℕ) → (np ≡ 18) ⊎ ((np ≡ 36) ⊎ ((np ≡ 72) ⊎ (np ≡ 144))) → true ≡ isNp np
 unfolding isNp

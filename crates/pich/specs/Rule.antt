@@ -16,6 +16,10 @@ isNp np = eqb np 18 || eqb np 36 || eqb np 72 || eqb np 144
 abbrev pub width : ℕ → ℕ
 width np = 288 / np
 
+-- 'Indicator q fills 288/Np digits from (288/Np)·q'; the tail's first digit for an indicator that the frame has not
+unfoldable pub firstDigit : ℕ → ℕ → ℕ
+firstDigit np q = cond (ltb q np) (width np * q) 288
+
 -- a frame is 300 digits: digit k of the first 288 is that of indicator floor(k / width), and the last 12 are DTX
 unfoldable pub frameOf : ℕ → List ℕ → List ℕ
 frameOf np indicators = tab 300 (λ (k : ℕ). cond (ltb k 288) (getD indicators (k / width np) 0) dtx)

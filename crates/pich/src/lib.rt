@@ -6,7 +6,7 @@ use run::unless;
 ghost use mathlib.Core.Path.{_≡_};
 ghost use mathlib.Core.Bool.{true};
 ghost use Prim.Native.Nat.{_*_, _/_, _<_, _≤_};
-ghost use Rattle.pich.specs.Rule.{isNp, qOf};
+ghost use Rattle.pich.specs.Rule.{isNp, firstDigit, qOf};
 ghost use Rattle.pich.specs.Outcome.{qVerdict, Q};
 
 // A PI as the higher layers compute it. It does not say where in the frame its indicator stands.
@@ -29,6 +29,16 @@ pub fn is_np(np: usize) -> bool
         18 | 36 | 72 | 144 => true,
         _ => false,
     }
+}
+
+// Where the digits of indicator q begin, and the tail where the frame has no such indicator.
+pub fn first_digit(np: usize, q: Indicator) -> usize
+    ensures { λ r. ⌜ r ≡ firstDigit np (q .0) ⌝ }
+{
+    if np <= q.0 {
+        return 288;
+    }
+    288 / np * q.0
 }
 
 fn q_verdict(np: usize, pi: Pi, sfn: usize) -> Verdict

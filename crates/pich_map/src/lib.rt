@@ -1,5 +1,6 @@
 // The paging indicator channel, mapped (rule, promises and theorems are those of the crate `pich`): docs/RULES.md, 'PICH'; TS 25.211, 5.3.3.10.
 use pich::Indicator;
+use pich::first_digit;
 use pich::is_np;
 use run::DTX;
 use run::Verdict;
@@ -9,18 +10,9 @@ use run::refusal;
 use run::unless;
 ghost use mathlib.Core.Path.{_≡_};
 ghost use mathlib.Core.Bool.{true};
-ghost use Prim.Native.Nat.{_*_, _<_, _^_};
 ghost use lib.ListN.{length};
 ghost use Rattle.pich.specs.Rule.{isNp, frameOf};
 ghost use Rattle.pich.specs.Outcome.{mapVerdict, Map};
-
-// Where the digits of indicator q begin.
-fn first_digit(width: usize, q: Indicator) -> usize
-    requires { ⌜ width * q .0 < 2 ^ 64 ⌝ }
-    ensures { λ r. ⌜ r ≡ width * q .0 ⌝ }
-{
-    width * q.0
-}
 
 fn map_verdict(np: usize, indicators: &[u8], frame_length: usize) -> Verdict
     ensures { λ r. ⌜ r ≡ mapVerdict np (now (indicators .entry)) «frame_length» ⌝ }
@@ -44,7 +36,7 @@ fn write_frame(np: usize, indicators: &[u8], frame: &mut [u8])
     let width = 288 / np;
     let mut q = 0;
     while q < np {
-        let start = first_digit(width, Indicator(q));
+        let start = first_digit(np, Indicator(q));
         let end = start + width;
         write::fill(&mut frame[start..end], indicators[q]);
         q += 1;

@@ -1,5 +1,6 @@
 // The paging indicator channel, read (rule, promises and theorems are those of the crate `pich`): docs/RULES.md, 'PICH'; TS 25.211, 5.3.3.10.
 use pich::Indicator;
+use pich::first_digit;
 use pich::is_np;
 use run::DTX;
 use run::Verdict;
@@ -9,19 +10,10 @@ use run::refusal;
 use run::unless;
 ghost use mathlib.Core.Path.{_≡_};
 ghost use mathlib.Core.Bool.{true};
-ghost use Prim.Native.Nat.{_*_, _<_, _^_};
 ghost use lib.ListN.{length};
 ghost use Rattle.run.specs.First.{firstBad};
 ghost use Rattle.pich.specs.Rule.{isNp, indicatorsIn};
 ghost use Rattle.pich.specs.Outcome.{stands, readHead, readVerdict, Read};
-
-// Where the digits of indicator q begin.
-fn first_digit(width: usize, q: Indicator) -> usize
-    requires { ⌜ width * q .0 < 2 ^ 64 ⌝ }
-    ensures { λ r. ⌜ r ≡ width * q .0 ⌝ }
-{
-    width * q.0
-}
 
 // The first digit that may not stand in a frame: group by group, then the tail.
 fn first_misfit(np: usize, frame: &[u8]) -> usize
@@ -31,7 +23,7 @@ fn first_misfit(np: usize, frame: &[u8]) -> usize
     let width = 288 / np;
     let mut q = 0;
     while q < np {
-        let start = first_digit(width, Indicator(q));
+        let start = first_digit(np, Indicator(q));
         let end = start + width;
         let i = scan::first_unlike(&frame[start..end]);
         if i < width {
@@ -67,10 +59,9 @@ fn read_indicators(np: usize, frame: &[u8], indicators: &mut [u8])
     requires { ⌜ (isNp np ≡ true) × (length (now frame) ≡ 300) × (length (now indicators) ≡ np) ⌝ }
     ensures { λ _. ⌜ now (indicators .exit) ≡ indicatorsIn np (now (frame .entry)) ⌝ }
 {
-    let width = 288 / np;
     let mut q = 0;
     while q < np {
-        let start = first_digit(width, Indicator(q));
+        let start = first_digit(np, Indicator(q));
         indicators[q] = frame[start];
         q += 1;
     }

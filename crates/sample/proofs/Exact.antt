@@ -17,7 +17,7 @@ use lib.Ieee.Positive.{positive, le→cross, cross→le, first-pos}
 use Rattle.run.specs.declared.Verdict.{Verdict}
 use Rattle.run.specs.First.{firstBad}
 use Rattle.run.specs.Verdicts.{done, orElse, unless, each, leaves, Narrow}
-use Rattle.run.proofs.Chain.{or-else-done, or-else-pass, unless-done, unless-pass, or-else-narrow, unless-narrow, check-narrow, leaves-refused, one-outcome}
+use Rattle.run.proofs.Chain.{or-else-done, or-else-pass, unless-done, unless-pass, or-else-narrow, unless-narrow, check-narrow, leaves-refused, one-outcome, number-0}
 use Rattle.sample.specs.declared.Setting.{Setting}
 use Rattle.sample.specs.declared.Setting.the-variants.{Off, Shared, Each}
 use Rattle.run.specs.Ranges.{between}
@@ -60,9 +60,6 @@ level-from (fin false m e) h =
 
 pub level-between : LevelBetween
 level-between x = (level-to x, level-from x)
-
-number-0 : {v : Verdict} → v ≡ done → v .number ≡ 0
-number-0 e = ap (λ (v : Verdict). v .number) e
 
 levels-to : (setting : Setting) → levelsVerdict setting .number ≡ 0 → Levels setting
 unfolding levelsVerdict

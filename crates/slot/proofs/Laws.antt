@@ -11,13 +11,12 @@ use lib.ListN.{length, getD, take, drop, replicate, length-append, length-drop, 
 use lib.Seq.{length-take-le, take-all, take-at, drop-at}
 use lib.Dec.{eqb, lit<}
 use borrow.Author.Tests.{eq-eqb, ne-eqb}
-use Rattle.run.specs.declared.Verdict.{Verdict}
 use Rattle.run.specs.Digits.{dtx}
 use Rattle.run.specs.First.{firstBad, isAt, notAt}
 use Rattle.run.specs.Fields.{total, field, start}
 use Rattle.run.specs.Written.{over}
 use Rattle.run.proofs.First.{first-is, first-same}
-use Rattle.run.proofs.Chain.{or-else-next, unless-pass}
+use Rattle.run.proofs.Chain.{or-else-next, unless-pass, number-0}
 use Rattle.run.proofs.Fields.{joined-length, field-is, field-lent, field-joined, field-length, field-at}
 use Rattle.run.proofs.Over.{over-whole}
 use Rattle.run.proofs.Front.{Front, front-none, front-fill, front-copy, front-lent, front-all}
@@ -244,6 +243,13 @@ data-small format =
     let short = s .short in
     omega arith
 
+pub tfci-small : (format : ℕ) → formatOf format .tfci ≤ 1280
+tfci-small format =
+    let s = sound-format format in
+    let n = sum (formatOf format) s in
+    let short = s .short in
+    omega arith
+
 -- the TFCI rule where the first digit is a bit, where it is DTX and may be, and where it may not
 module _ (tfci : List ℕ) where
   bits-alike : (allowed d : Bool) → not d ≡ ((allowed || not d) && Bool·beq d false)
@@ -273,4 +279,4 @@ module _ (tfci : List ℕ) where
 pub part-whole : (format slot : ℕ) (xs : List ℕ) (base : ℕ) → length xs ≡ formatOf format .slot
     → partVerdict format slot xs base ≡ digitsVerdict format (formatOf format) slot xs base
 unfolding partVerdict
-part-whole format slot xs base e = or-else-next _ _ (ap (λ (v : Verdict). v .number) (unless-pass 3 0 (eq-eqb _ _ e)))
+part-whole format slot xs base e = or-else-next _ _ (number-0 (unless-pass 3 0 (eq-eqb _ _ e)))

@@ -2,28 +2,36 @@
 -- Assumes nothing.
 use Prim.Native.Nat.{ℕ, _+_}
 use mathlib.Core.Path.{_≡_}
-use mathlib.Core.List.{List}
+use mathlib.Core.Bool.{Bool}
+use mathlib.Core.List.{List, [], _∷_}
 use lib.ListN.{length}
 use lib.Dec.{eqb, leb}
 use Rattle.run.specs.declared.Verdict.{Verdict}
 use Rattle.run.specs.First.{atMost, likeFirst, agree}
 use Rattle.run.specs.Fields.{start}
 use Rattle.run.specs.Refusals.{formatRefused, slotRefused, lengthRefused, digitRefused, tpcRefused, tfciRefused, pilotRefused}
-use Rattle.run.specs.Verdicts.{orElse, unless, each, leaves}
+use Rattle.run.specs.Verdicts.{orElse, unless, each, lengths, leaves}
 use Rattle.dpch.specs.declared.Format.{Format}
 use Rattle.dpch.specs.Formats.{formatOf, widths, silenceAllowed}
 use Rattle.dpch.specs.Pilots.{pilotOf}
 use Rattle.slot.specs.declared.Command.{Command}
 use Rattle.slot.specs.Rule.{dataSize, slotOf, tpcIn, tfciIn, pilotIn, dataIn, commandIn, tfciStands}
 
+-- numbers and lengths: 1, 2, then 3 at the first run whose length is not right
+unfoldable pub head : ℕ → ℕ → List Bool → Verdict
+head format slot right =
+    orElse (unless (leb format 16) formatRefused 0)
+    (orElse (unless (leb slot 14) slotRefused 0)
+    (lengths right))
+
 -- map: 1, 2, 3 (data, TFCI, output) ..
 unfoldable pub mapHead : ℕ → ℕ → ℕ → ℕ → ℕ → Verdict
 mapHead format slot dataLength tfciLength outLength =
-    orElse (unless (leb format 16) formatRefused 0)
-    (orElse (unless (leb slot 14) slotRefused 0)
-    (orElse (unless (eqb dataLength (dataSize (formatOf format))) lengthRefused 0)
-    (orElse (unless (eqb tfciLength (formatOf format .tfci)) lengthRefused 1)
-    (unless (eqb outLength (formatOf format .slot)) lengthRefused 2))))
+    head format slot
+    (eqb dataLength (dataSize (formatOf format))
+    ∷ eqb tfciLength (formatOf format .tfci)
+    ∷ eqb outLength (formatOf format .slot)
+    ∷ [])
 
 -- .. 5, then TFCI: 4 above 2, 6; then data 4 above 2. The places of command, TFCI and data count from where they stand in their runs
 unfoldable pub fieldsVerdict : ℕ → ℕ → List ℕ → List ℕ → ℕ → ℕ → ℕ → Verdict
@@ -49,11 +57,11 @@ pub record Put (format slot tpc : ℕ) (d tfci out : List ℕ) (answer : Verdict
 -- read: 1, 2, 3 (slot, data, TFCI) ..
 unfoldable pub readHead : ℕ → ℕ → ℕ → ℕ → ℕ → Verdict
 readHead format slot slotLength dataLength tfciLength =
-    orElse (unless (leb format 16) formatRefused 0)
-    (orElse (unless (leb slot 14) slotRefused 0)
-    (orElse (unless (eqb slotLength (formatOf format .slot)) lengthRefused 0)
-    (orElse (unless (eqb dataLength (dataSize (formatOf format))) lengthRefused 1)
-    (unless (eqb tfciLength (formatOf format .tfci)) lengthRefused 2))))
+    head format slot
+    (eqb slotLength (formatOf format .slot)
+    ∷ eqb dataLength (dataSize (formatOf format))
+    ∷ eqb tfciLength (formatOf format .tfci)
+    ∷ [])
 
 -- .. 4 above 2, 5 (first TPC digit that is DTX or unlike the first), 6, 7; the slot's places count from base
 unfoldable pub digitsVerdict : ℕ → Format → ℕ → List ℕ → ℕ → Verdict

@@ -1,12 +1,13 @@
--- What the private writers and readers of fields ask of their callers. No public call asks anything.
+-- What the private writers and readers of fields ask of their callers, and what `sizes_of` answers. No public call asks anything.
 -- Assumes nothing.
 use Prim.Native.Nat.{ℕ, _≤_}
 use mathlib.Core.Path.{_≡_}
 use lib.ListN.{length, take}
 use Rattle.run.specs.Fields.{total}
 use Rattle.dpch.specs.declared.Format.{Format}
-use Rattle.dpch.specs.Formats.{widths}
+use Rattle.dpch.specs.Formats.{formatOf, widths}
 use Rattle.dpch.specs.Pilots.{pilotSource, pilotOf}
+use Rattle.slot.specs.declared.Sizes.{Sizes}
 use Rattle.slot.specs.Rule.{dataSize}
 
 -- a pilot of so many bits is cut from what it is the beginning of
@@ -31,3 +32,12 @@ pub record Ready (f : Format) (dataLength tfciLength slotLength : ℕ) : Type 0 
   pub data-ok : dataLength ≡ dataSize f
   pub tfci-ok : tfciLength ≡ f .tfci
   pub slot-ok : slotLength ≡ f .slot
+
+-- the lengths of one slot's runs
+pub record SizesOf (format : ℕ) (s : Sizes) : Type 0 where
+  pub data-is : s .«data» ≡ dataSize (formatOf format)
+  pub tfci-is : s .tfci ≡ formatOf format .tfci
+  pub slot-is : s .slot ≡ formatOf format .slot
+  pub data-short : s .«data» ≤ 1280
+  pub tfci-short : s .tfci ≤ 1280
+  pub slot-short : s .slot ≤ 1280

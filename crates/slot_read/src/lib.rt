@@ -1,35 +1,11 @@
 // One slot of the downlink DPCH, read: its digits are checked by the crate `slot_check`, and then its fields are taken. Rule, promises and theorems are those of
 // the crate `slot`: docs/RULES.md, 'DPCH slot'; TS 25.211, 5.3.2.
 use run::Verdict;
-use run::or_else;
-use run::refusal;
-use run::unless;
 use slot::Command;
 ghost use mathlib.Core.Path.{_≡_};
-ghost use Rattle.slot.specs.Outcome.{readHead, readVerdict, Read, Take};
+ghost use Rattle.slot.specs.Outcome.{readVerdict, Read, Take};
 
 mod fields;
-
-// The checks of numbers and lengths.
-fn read_head(
-    format: usize,
-    slot: usize,
-    slot_length: usize,
-    data_length: usize,
-    tfci_length: usize,
-) -> Verdict
-    ensures { λ r. ⌜ r ≡ readHead format slot «slot_length» «data_length» «tfci_length» ⌝ }
-{
-    let f = dpch::format_of(format);
-    let third = unless(tfci_length == f.tfci, refusal::LENGTH, 2);
-    let second = or_else(
-        unless(data_length == f.data1 + f.data2, refusal::LENGTH, 1),
-        third,
-    );
-    let lengths = or_else(unless(slot_length == f.slot, refusal::LENGTH, 0), second);
-    let numbers = or_else(unless(slot <= 14, refusal::SLOT, 0), lengths);
-    or_else(unless(format <= 16, refusal::FORMAT, 0), numbers)
-}
 
 fn read_verdict(
     format: usize,
@@ -40,7 +16,7 @@ fn read_verdict(
 ) -> Verdict
     ensures { λ r. ⌜ r ≡ readVerdict format slot (now (xs .entry)) «data_length» «tfci_length» ⌝ }
 {
-    let head = read_head(format, slot, xs.len(), data_length, tfci_length);
+    let head = slot::read_head(format, slot, xs.len(), data_length, tfci_length);
     if head.number != 0 {
         return head;
     }
@@ -51,7 +27,7 @@ fn read_verdict(
 pub fn take(format: usize, slot: usize, xs: &[u8], data: &mut [u8], tfci: &mut [u8]) -> Command
     ensures { λ r. ⌜ Take format slot (now (xs .entry)) (now («data» .entry)) (now (tfci .entry)) r (now («data» .exit)) (now (tfci .exit)) ⌝ }
 {
-    let head = read_head(format, slot, xs.len(), data.len(), tfci.len());
+    let head = slot::read_head(format, slot, xs.len(), data.len(), tfci.len());
     if head.number != 0 {
         return Command {
             verdict: head,

@@ -7,9 +7,8 @@ use borrow.Author.Needs.{needs}
 use lib.Dec.{lit<}
 use mir.Syntax.{w64}
 use Rattle.run.proofs.Front.{Front, front-none, front-all}
-use Rattle.whole.proofs.Bits.{r-in, fits-sum, fits-diff}
 use Rattle.aich.specs.Method.{folded}
-use Rattle.aich.proofs.Folding.{folded-length, turn-front}
+use Rattle.aich.proofs.Folding.{folded-length, turn-sum, turn-diff, turn-front}
 use Rattle.correlator.proofs.fold.Statement.{statement}
 use Rattle.correlator.proofs.fold.Tie as tie
 
@@ -39,8 +38,8 @@ shared-slice-copy-out-b c = search needs
 
 add-y : tie.Need-add-y Inv-loop μ-loop
 add-y c =
-    let p = c .before .before .before .before .pre in
-    fits-sum {w = w64} (r-in (p .small _ (omega arith)) (lit< tt)) (r-in (p .small _ (omega arith)) (lit< tt)) (lit< tt)
+    let head = c .before .before .before in
+    turn-sum w64 (head .before .args .x .now) 4503599627370496 (head .loop .i) (head .before .pre) (lit< tt) (c .before .before .loop-test .taken)
 
 mul-y : tie.Need-mul-y Inv-loop μ-loop
 mul-y c = search needs
@@ -53,8 +52,8 @@ array-set-from-y c = search needs
 
 sub-y : tie.Need-sub-y Inv-loop μ-loop
 sub-y c =
-    let p = c .before .before .before .before .pre in
-    fits-diff {w = w64} (r-in (p .small _ (omega arith)) (lit< tt)) (r-in (p .small _ (omega arith)) (lit< tt)) (lit< tt)
+    let head = c .before .before .before in
+    turn-diff w64 (head .before .args .x .now) 4503599627370496 (head .loop .i) (head .before .pre) (lit< tt) (c .before .before .loop-test .taken)
 
 mul-y-3 : tie.Need-mul-y-3 Inv-loop μ-loop
 mul-y-3 c = search needs

@@ -1,13 +1,13 @@
 -- `pich_map::write_frame` meets its contract: each turn writes one indicator's stretch from the front on, and the tail is the last part.
 -- Assumes nothing.
 use mathlib.Core.Path.{_≡_, sym, _∙_}
-use Prim.Native.Nat.{_+_, _*_, _-_, _≤_}
+use Prim.Native.Nat.{_*_, _-_, _≤_}
 use native.Mathlib.Nat.{mul-zero}
 use native.Mathlib.Omega.{arith}
 use borrow.Author.Needs.{needs}
 use Rattle.run.proofs.Front.{Front, front-none, front-length}
 use Rattle.pich.specs.Rule.{frameOf, width}
-use Rattle.pich.proofs.Laws.{groups, frame-length}
+use Rattle.pich.proofs.Laws.{Stretch, stretch, groups, frame-length}
 use Rattle.pich_map.proofs.Laws.{one-more, tail-last}
 use Rattle.pich_map.proofs.write_frame.Statement.{statement}
 use Rattle.pich_map.proofs.write_frame.Tie as tie
@@ -18,9 +18,9 @@ Inv-loop np indicators frame₀ width q₀ frame q = (q ≤ np) × Front (frameO
 abbrev μ-loop : tie.MeasureT-loop
 μ-loop np indicators frame₀ width q₀ frame q = np - q
 
-room : (c : tie.In-loop Inv-loop μ-loop)
-    → width (c .before .before .before .before .args .np) * c .before .loop .q + width (c .before .before .before .before .args .np) ≤ 288
-room c = groups _ (c .before .before .before .before .pre .0) .inside _ (c .loop-test .taken)
+-- the indicator of a turn
+here : (c : tie.After-first-digit Inv-loop μ-loop) → Stretch (c .before .before .before .before .before .args .np) (c .before .before .loop .q) (c .first-digit .result)
+here c = stretch _ _ _ (c .before .before .before .before .before .pre .0) (c .before .loop-test .taken) (c .first-digit .ensures)
 
 div-width : tie.Need-div-width Inv-loop μ-loop
 div-width c = groups _ (c .before .before .pre .0) .some
@@ -29,19 +29,19 @@ loop-holds : tie.Need-loop-holds Inv-loop μ-loop
 loop-holds c = (omega arith, rw mul-zero (front-none (frame-length _ _ ∙ sym (c .before .before .pre .2))))
 
 first-digit-requires : tie.Need-first-digit-requires Inv-loop μ-loop
-first-digit-requires c κs = omega (arith, room c)
+first-digit-requires c κs = search needs
 
 add-end : tie.Need-add-end Inv-loop μ-loop
-add-end c = omega (arith, room (c .before))
+add-end c = omega (arith, here c)
 
 sub-fill : tie.Need-sub-fill Inv-loop μ-loop
 sub-fill c = omega arith
 
 part-fill-start : tie.Need-part-fill-start Inv-loop μ-loop
-part-fill-start c = omega (arith, room (c .before), front-length (c .before .before .loop .inv .1))
+part-fill-start c = omega (arith, here c, front-length (c .before .before .loop .inv .1))
 
 part-fill-end : tie.Need-part-fill-end Inv-loop μ-loop
-part-fill-end c = omega (arith, room (c .before), front-length (c .before .before .loop .inv .1))
+part-fill-end c = omega (arith, here c, front-length (c .before .before .loop .inv .1))
 
 shared-slice-read-fill : tie.Need-shared-slice-read-fill Inv-loop μ-loop
 shared-slice-read-fill c = omega arith
@@ -61,7 +61,7 @@ loop-again c =
     let head = turn .before in
     let start = head .before .before .before in (
       omega arith,
-      one-more _ _ (start .pre .0) _ _ (turn .loop-test .taken) (c .before .before .before .before .before .first-digit .ensures) _ _ _ (start .pre .2)
+      one-more _ _ (start .pre .0) _ _ (turn .loop-test .taken) (here (c .before .before .before .before .before) .begins) _ _ _ (start .pre .2)
           (head .loop .inv .1) (c .before .before .fill .ensures),
     )
 

@@ -1,7 +1,7 @@
 -- `pich_read::first_misfit` meets its contract: the scan's laws part by part.
 -- Assumes nothing.
 use mathlib.Core.Path.{_≡_}
-use Prim.Native.Nat.{_+_, _*_, _-_, _≤_}
+use Prim.Native.Nat.{_*_, _-_, _≤_}
 use native.Mathlib.Nat.{mul-zero}
 use native.Mathlib.Omega.{arith}
 use borrow.Author.Count.{below-none}
@@ -9,7 +9,7 @@ use borrow.Author.Needs.{needs}
 use Rattle.run.specs.First.{Every}
 use Rattle.pich.specs.Rule.{width}
 use Rattle.pich.specs.Outcome.{stands}
-use Rattle.pich.proofs.Laws.{groups}
+use Rattle.pich.proofs.Laws.{Stretch, stretch, groups}
 use Rattle.pich_read.proofs.Laws.{within, hit, pass, last}
 use Rattle.pich_read.proofs.first_misfit.Statement.{statement}
 use Rattle.pich_read.proofs.first_misfit.Tie as tie
@@ -20,9 +20,9 @@ Inv-loop np frame width q₀ q = (q ≤ np) × Every (stands np frame) (width * 
 abbrev μ-loop : tie.MeasureT-loop
 μ-loop np frame width q₀ q = np - q
 
-room : (c : tie.In-loop Inv-loop μ-loop)
-    → width (c .before .before .before .args .np) * c .before .loop .q + width (c .before .before .before .args .np) ≤ 288
-room c = groups _ (c .before .before .before .pre .0) .inside _ (c .loop-test .taken)
+-- the indicator of a turn
+here : (c : tie.After-first-digit Inv-loop μ-loop) → Stretch (c .before .before .before .before .args .np) (c .before .before .loop .q) (c .first-digit .result)
+here c = stretch _ _ _ (c .before .before .before .before .pre .0) (c .before .loop-test .taken) (c .first-digit .ensures)
 
 div-width : tie.Need-div-width Inv-loop μ-loop
 div-width c = groups _ (c .before .pre .0) .some
@@ -31,31 +31,31 @@ loop-holds : tie.Need-loop-holds Inv-loop μ-loop
 loop-holds c = (omega arith, rw mul-zero (below-none _))
 
 first-digit-requires : tie.Need-first-digit-requires Inv-loop μ-loop
-first-digit-requires c κs = omega (arith, room c)
+first-digit-requires c κs = search needs
 
 add-end : tie.Need-add-end Inv-loop μ-loop
-add-end c = omega (arith, room (c .before))
+add-end c = omega (arith, here c)
 
 sub-first-unlike : tie.Need-sub-first-unlike Inv-loop μ-loop
 sub-first-unlike c = omega arith
 
 part-first-unlike-start : tie.Need-part-first-unlike-start Inv-loop μ-loop
-part-first-unlike-start c = omega (arith, room (c .before))
+part-first-unlike-start c = omega (arith, here c)
 
 part-first-unlike-end : tie.Need-part-first-unlike-end Inv-loop μ-loop
-part-first-unlike-end c = omega (arith, room (c .before))
+part-first-unlike-end c = omega (arith, here c)
 
 first-unlike-requires : tie.Need-first-unlike-requires Inv-loop μ-loop
 first-unlike-requires c κs = search needs
 
 add-result : tie.Need-add-result Inv-loop μ-loop
-add-result c = omega (arith, room (c .before .before .before .before))
+add-result c = omega (arith, here (c .before .before .before))
 
 returns : tie.Need-returns Inv-loop μ-loop
 returns c =
     let turn = c .before .before .before .before in
     let start = turn .before .before .before in
-    hit _ (start .pre .0) _ (start .pre .1) _ _ _ (turn .loop-test .taken) (c .before .before .before .first-digit .ensures) (turn .before .loop .inv .1)
+    hit _ (start .pre .0) _ (start .pre .1) _ _ _ (turn .loop-test .taken) (here (c .before .before .before) .begins) (turn .before .loop .inv .1)
     (c .before .first-unlike .ensures) (c .if1 .taken)
 
 add-q : tie.Need-add-q Inv-loop μ-loop
@@ -69,7 +69,7 @@ loop-again c =
     let turn = c .before .before .before .before in
     let start = turn .before .before .before in (
       omega arith,
-      pass _ (start .pre .0) _ (start .pre .1) _ _ _ (turn .loop-test .taken) (c .before .before .before .first-digit .ensures) (turn .before .loop .inv .1)
+      pass _ (start .pre .0) _ (start .pre .1) _ _ _ (turn .loop-test .taken) (here (c .before .before .before) .begins) (turn .before .loop .inv .1)
           (c .before .first-unlike .ensures) (c .if1 .left),
     )
 

@@ -1,39 +1,36 @@
 -- `pich_read::read_indicators` meets its contract: each turn stores one indicator more.
 -- Assumes nothing.
 use mathlib.Core.Path.{sym, ap, _∙_}
-use Prim.Native.Nat.{ℕ, _+_, _*_, _-_, _≤_}
+use Prim.Native.Nat.{ℕ, _-_, _≤_}
 use native.Mathlib.Omega.{arith}
+use borrow.Author.Needs.{needs}
 use denote.Ref.{now}
 use lib.ListN.{getD}
 use Rattle.run.proofs.Front.{Front, front-none, front-length, front-store, front-all}
-use Rattle.pich.specs.Rule.{width, indicatorsIn}
-use Rattle.pich.proofs.Laws.{groups, indicators-length, indicator-at}
+use Rattle.pich.specs.Rule.{indicatorsIn}
+use Rattle.pich.proofs.Laws.{Stretch, stretch, groups, indicators-length, indicator-at}
 use Rattle.pich_read.proofs.read_indicators.Statement.{statement}
 use Rattle.pich_read.proofs.read_indicators.Tie as tie
 
 abbrev Inv-loop : tie.InvT-loop
-Inv-loop np frame indicators₀ width q₀ indicators q = (q ≤ np) × Front (indicatorsIn np frame) indicators₀ indicators q
+Inv-loop np frame indicators₀ q₀ indicators q = (q ≤ np) × Front (indicatorsIn np frame) indicators₀ indicators q
 
 abbrev μ-loop : tie.MeasureT-loop
-μ-loop np frame indicators₀ width q₀ indicators q = np - q
+μ-loop np frame indicators₀ q₀ indicators q = np - q
 
-room : (c : tie.In-loop Inv-loop μ-loop)
-    → width (c .before .before .before .before .args .np) * c .before .loop .q + width (c .before .before .before .before .args .np) ≤ 288
-room c = groups _ (c .before .before .before .before .pre .0) .inside _ (c .loop-test .taken)
-
-div-width : tie.Need-div-width Inv-loop μ-loop
-div-width c = groups _ (c .before .before .pre .0) .some
+-- the indicator of a turn
+here : (c : tie.After-first-digit Inv-loop μ-loop) → Stretch (c .before .before .before .before .before .args .np) (c .before .before .loop .q) (c .first-digit .result)
+here c = stretch _ _ _ (c .before .before .before .before .before .pre .0) (c .before .loop-test .taken) (c .first-digit .ensures)
 
 loop-holds : tie.Need-loop-holds Inv-loop μ-loop
 loop-holds c = (omega arith, front-none (indicators-length _ _ ∙ sym (c .before .before .pre .2)))
 
 first-digit-requires : tie.Need-first-digit-requires Inv-loop μ-loop
-first-digit-requires c κs = omega (arith, room c)
+first-digit-requires c κs = search needs
 
 shared-slice-read-indicators : tie.Need-shared-slice-read-indicators Inv-loop μ-loop
 shared-slice-read-indicators c =
-    let g = groups _ (c .before .before .before .before .before .before .pre .0) in
-    omega (arith, room (c .before .before), g .wide, g .few)
+    omega (arith, here (c .before), groups _ (c .before .before .before .before .before .before .pre .0) .wide)
 
 slice-write-indicators : tie.Need-slice-write-indicators Inv-loop μ-loop
 slice-write-indicators c = omega (arith, front-length (c .before .before .before .loop .inv .1))
@@ -50,7 +47,7 @@ loop-again c =
     let head = turn .before in (
       omega arith,
       front-store 0 (head .loop .inv .1) (omega (arith, front-length (head .loop .inv .1)))
-          (ap (λ (n : ℕ). getD (now (head .before .before .before .args .frame)) n 0) (c .before .first-digit .ensures) ∙ sym (indicator-at _ _ _ (turn .loop-test .taken))),
+          (ap (λ (n : ℕ). getD (now (head .before .before .before .args .frame)) n 0) (here (c .before) .begins) ∙ sym (indicator-at _ _ _ (turn .loop-test .taken))),
     )
 
 same-length : tie.Need-same-length Inv-loop μ-loop
@@ -65,7 +62,6 @@ read-indicators-spec =
     (tie.spec
     Inv-loop
     μ-loop
-    div-width
     loop-holds
     first-digit-requires
     shared-slice-read-indicators

@@ -1,70 +1,22 @@
--- `slot::map_head` meets its contract: the chain of checks is the definition's.
+-- `slot::map_head` meets its contract: the lengths are those of one slot's runs.
 -- Assumes nothing.
 use mathlib.Core.Path.{_∙_}
-use Rattle.run.proofs.Chain.{or-else-is}
-use native.Mathlib.Omega.{arith}
-use Rattle.slot.proofs.Laws.{data-small}
 use Rattle.slot.specs.Outcome.{mapHead}
 use borrow.Author.Needs.{needs}
 use Rattle.slot.proofs.map_head.Statement.{statement}
 use Rattle.slot.proofs.map_head.Tie as tie
 
-format-of-requires : tie.Need-format-of-requires
-format-of-requires c κs = search needs
+sizes-of-requires : tie.Need-sizes-of-requires
+sizes-of-requires c κs = search needs
 
-unless-requires : tie.Need-unless-requires
-unless-requires c κs = search needs
-
-unless-requires-2 : tie.Need-unless-requires-2
-unless-requires-2 c κs = search needs
-
-or-else-requires : tie.Need-or-else-requires
-or-else-requires c κs = search needs
-
-add-unless : tie.Need-add-unless
-add-unless c = rw (c .before .before .before .before .before .before .format-of .ensures) (let h = data-small (c .before .before .before .before .before .before .before .args .format) in omega arith)
-
-unless-requires-3 : tie.Need-unless-requires-3
-unless-requires-3 c κs = search needs
-
-or-else-requires-2 : tie.Need-or-else-requires-2
-or-else-requires-2 c κs = search needs
-
-unless-requires-4 : tie.Need-unless-requires-4
-unless-requires-4 c κs = search needs
-
-or-else-requires-3 : tie.Need-or-else-requires-3
-or-else-requires-3 c κs = search needs
-
-unless-requires-5 : tie.Need-unless-requires-5
-unless-requires-5 c κs = search needs
-
-or-else-requires-4 : tie.Need-or-else-requires-4
-or-else-requires-4 c κs = search needs
+head-requires : tie.Need-head-requires
+head-requires c κs = search needs
 
 returns : tie.Need-returns
 unfolding mapHead
 returns c =
-    let e = c .before .before .before .before .before .before .before .before .before .before .before .before .format-of .ensures in
-    or-else-is (c .or-else4 .ensures) (c .before .unless5 .ensures)
-    (or-else-is (c .before .before .or-else3 .ensures) (c .before .before .before .unless4 .ensures)
-    (or-else-is (c .before .before .before .before .or-else2 .ensures) (c .before .before .before .before .before .unless3 .ensures ∙ rw e)
-    (or-else-is (c .before .before .before .before .before .before .before .or-else .ensures) (c .before .before .before .before .before .before .before .before .unless2 .ensures ∙ rw e)
-    (c .before .before .before .before .before .before .before .before .before .before .unless .ensures ∙ rw e))))
+    let s = c .before .before .before .before .sizes-of .ensures in
+    c .head .ensures ∙ rw (s .data-is, s .tfci-is, s .slot-is)
 
 pub map-head-spec : {M : Type 1} → statement M
-map-head-spec =
-    tie.close
-    (tie.spec
-    format-of-requires
-    unless-requires
-    unless-requires-2
-    or-else-requires
-    add-unless
-    unless-requires-3
-    or-else-requires-2
-    unless-requires-4
-    or-else-requires-3
-    unless-requires-5
-    or-else-requires-4
-    returns)
+map-head-spec = tie.close (tie.spec sizes-of-requires head-requires returns)

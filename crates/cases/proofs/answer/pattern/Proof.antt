@@ -5,7 +5,6 @@ use mathlib.Core.Bool.{true, not}
 use lib.Dec.{T}
 use lib.Ieee.{Float, nan, inf, fin, eq, isNan}
 use borrow.Author.Needs.{needs}
-use borrow.Author.Needs.{needs}
 use Rattle.cases.proofs.answer.pattern.Statement.{statement}
 use Rattle.cases.proofs.answer.pattern.Tie as tie
 

@@ -15,14 +15,11 @@ abbrev μ-loop : tie.MeasureT-loop
 loop-holds : tie.Need-loop-holds Inv-loop μ-loop
 loop-holds c = omega arith
 
-mul-wide : tie.Need-mul-wide Inv-loop μ-loop
-mul-wide c = omega arith
+mul-signed : tie.Need-mul-signed Inv-loop μ-loop
+mul-signed c = omega arith
 
-shared-slice-copy-out-wide : tie.Need-shared-slice-copy-out-wide Inv-loop μ-loop
-shared-slice-copy-out-wide c = omega arith
-
-wide-requires : tie.Need-wide-requires Inv-loop μ-loop
-wide-requires c κs = tt
+shared-slice-copy-out-signed : tie.Need-shared-slice-copy-out-signed Inv-loop μ-loop
+shared-slice-copy-out-signed c = omega arith
 
 signed-requires : tie.Need-signed-requires Inv-loop μ-loop
 signed-requires c κs = tt
@@ -46,9 +43,8 @@ values-spec =
     Inv-loop
     μ-loop
     loop-holds
-    mul-wide
-    shared-slice-copy-out-wide
-    wide-requires
+    mul-signed
+    shared-slice-copy-out-signed
     signed-requires
     add-i
     loop-less

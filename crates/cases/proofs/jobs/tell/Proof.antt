@@ -4,7 +4,6 @@ use mathlib.Core.Path.{sym}
 use lib.Seq.{length-take-le}
 use Rattle.lines.proofs.Records.{prints-fit}
 use borrow.Author.Needs.{needs}
-use borrow.Author.Needs.{needs}
 use Rattle.cases.proofs.jobs.tell.Statement.{statement}
 use Rattle.cases.proofs.jobs.tell.Tie as tie
 

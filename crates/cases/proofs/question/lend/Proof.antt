@@ -8,7 +8,6 @@ use Rattle.io.specs.Counts.{Counts}
 use native.Mathlib.Omega.{arith}
 use borrow.Author.Needs.{needs}
 use lib.ListN.{length}
-use borrow.Author.Needs.{needs}
 use Rattle.cases.proofs.question.lend.Statement.{statement}
 use Rattle.cases.proofs.question.lend.Tie as tie
 

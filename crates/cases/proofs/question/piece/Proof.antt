@@ -4,7 +4,6 @@ use mathlib.Core.Path.{sym}
 use lib.Seq.{length-take-le}
 use Rattle.run.proofs.First.{first-le}
 use borrow.Author.Needs.{needs}
-use borrow.Author.Needs.{needs}
 use Rattle.cases.proofs.question.piece.Statement.{statement}
 use Rattle.cases.proofs.question.piece.Tie as tie
 

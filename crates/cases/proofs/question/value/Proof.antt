@@ -9,7 +9,6 @@ use mir.Facts.{toZ-pos}
 use Rattle.whole.proofs.Bound.{b-lit, b-diff, fits-by}
 use native.Mathlib.Omega.{arith}
 use borrow.Author.Needs.{needs}
-use borrow.Author.Needs.{needs}
 use Rattle.cases.proofs.question.value.Statement.{statement}
 use Rattle.cases.proofs.question.value.Tie as tie
 

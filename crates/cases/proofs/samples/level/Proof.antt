@@ -9,7 +9,6 @@ use lib.Ieee.{nanBits, binary32}
 use lib.Ieee.Bits.{nanBits-above}
 use native.Mathlib.Omega.{arith}
 use borrow.Author.Needs.{needs}
-use borrow.Author.Needs.{needs}
 use Rattle.cases.proofs.samples.level.Statement.{statement}
 use Rattle.cases.proofs.samples.level.Tie as tie
 

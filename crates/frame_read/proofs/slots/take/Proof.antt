@@ -6,13 +6,12 @@ use native.Mathlib.Nat.{zero-mul}
 use native.Mathlib.Omega.{arith}
 use borrow.Author.Needs.{needs}
 use denote.Ref.{now}
-use Rattle.run.proofs.Chain.{leaves-done}
 use Rattle.run.proofs.Front.{Front, front-none, front-length, front-store, front-all}
 use Rattle.run.proofs.Parts.{part-room}
 use Rattle.dpch.specs.Formats.{formatOf}
 use Rattle.slot.specs.Rule.{dataSize}
 use Rattle.frame.specs.Rule.{dataIn, tfciIn, commandsIn}
-use Rattle.frame.proofs.Laws.{data-in-length, tfci-in-length, commands-in-length, taken-head, data-taken, tfci-taken, command-taken, command-of}
+use Rattle.frame.proofs.Laws.{data-in-length, tfci-in-length, commands-in-length, command-of, slot-back}
 use Rattle.frame_read.proofs.slots.take.Statement.{statement}
 use Rattle.frame_read.proofs.slots.take.Tie as tie
 
@@ -97,11 +96,10 @@ cast-commands c =
     let h = c .before .before .before .before .before .before .before .before .before .loop-test .taken in
     let l = c .before .before .before .before .before .before .before .before .before .before .loop in
     let t = c .before .before .before .before .before .take .ensures in
-    let head =
-    taken-head (a .format) (now (a .xs)) (now (a .«data»)) (now (a .tfci)) (now (a .commands)) (l .«data») (l .tfci) _ _ _ _ room h (s .data-is) (s .tfci-is) (s .slot-is) (l .inv .1) (l .inv .2)
+    let b =
+    slot-back (a .format) (now (a .xs)) (now (a .«data»)) (now (a .tfci)) (now (a .commands)) (l .«data») (l .tfci) _ _ _ _ room h (s .data-is) (s .tfci-is) (s .slot-is) (l .inv .1) (l .inv .2) _ _ _ t
     in
-    let v = command-taken (a .format) (now (a .xs)) (now (a .«data»)) (now (a .tfci)) (now (a .commands)) (l .«data») (l .tfci) _ _ _ _ room h (s .data-is) (s .tfci-is) (s .slot-is) (l .inv .1) (l .inv .2) _ (t .command-is ∙ leaves-done _ _ _ head) in
-    omega (arith, v, command-of (a .format) (now (a .xs)) (room .frame-ok) _ h, c .before .before .before .before .before .before .before .before .before .before .before .before .before .before .before .before .pre .1 .bit _ h)
+    omega (arith, b .command-back, command-of (a .format) (now (a .xs)) (room .frame-ok) _ h, c .before .before .before .before .before .before .before .before .before .before .before .before .before .before .before .before .pre .1 .bit _ h)
 
 slice-write-commands : tie.Need-slice-write-commands Inv-loop μ-loop
 slice-write-commands c = omega (arith, front-length (c .before .before .before .before .before .before .before .before .before .before .loop .inv .3), c .before .before .before .before .before .before .before .before .before .before .before .before .before .before .before .before .pre .0)
@@ -120,13 +118,13 @@ loop-again c =
     let h = c .before .before .before .before .before .before .before .before .before .loop-test .taken in
     let l = c .before .before .before .before .before .before .before .before .before .before .loop in
     let t = c .before .before .before .before .before .take .ensures in
-    let head =
-    taken-head (a .format) (now (a .xs)) (now (a .«data»)) (now (a .tfci)) (now (a .commands)) (l .«data») (l .tfci) _ _ _ _ room h (s .data-is) (s .tfci-is) (s .slot-is) (l .inv .1) (l .inv .2)
+    let b =
+    slot-back (a .format) (now (a .xs)) (now (a .«data»)) (now (a .tfci)) (now (a .commands)) (l .«data») (l .tfci) _ _ _ _ room h (s .data-is) (s .tfci-is) (s .slot-is) (l .inv .1) (l .inv .2) _ _ _ t
     in (
       omega arith,
-      data-taken (a .format) (now (a .xs)) (now (a .«data»)) (now (a .tfci)) (now (a .commands)) (l .«data») (l .tfci) _ _ _ _ room h (s .data-is) (s .tfci-is) (s .slot-is) (l .inv .1) (l .inv .2) _ (t .data-is ∙ leaves-done _ _ _ head),
-      tfci-taken (a .format) (now (a .xs)) (now (a .«data»)) (now (a .tfci)) (now (a .commands)) (l .«data») (l .tfci) _ _ _ _ room h (s .data-is) (s .tfci-is) (s .slot-is) (l .inv .1) (l .inv .2) _ (t .tfci-is ∙ leaves-done _ _ _ head),
-      front-store 0 (l .inv .3) (omega (arith, front-length (l .inv .3), room)) (command-taken (a .format) (now (a .xs)) (now (a .«data»)) (now (a .tfci)) (now (a .commands)) (l .«data») (l .tfci) _ _ _ _ room h (s .data-is) (s .tfci-is) (s .slot-is) (l .inv .1) (l .inv .2) _ (t .command-is ∙ leaves-done _ _ _ head)),
+      b .data-back,
+      b .tfci-back,
+      front-store 0 (l .inv .3) (omega (arith, front-length (l .inv .3), room)) (b .command-back),
     )
 
 same-length : tie.Need-same-length Inv-loop μ-loop

@@ -1,12 +1,11 @@
--- `frame::sizes_of` meets its contract.
+-- `slot::sizes_of` meets its contract.
 -- Assumes nothing.
 use mathlib.Core.Path.{refl}
 use native.Mathlib.Omega.{arith}
-use Rattle.slot.proofs.Laws.{data-small, sound-format}
-use Rattle.frame.proofs.Laws.{tfci-small}
+use Rattle.slot.proofs.Laws.{data-small, tfci-small, sound-format}
 use borrow.Author.Needs.{needs}
-use Rattle.frame.proofs.sizes_of.Statement.{statement}
-use Rattle.frame.proofs.sizes_of.Tie as tie
+use Rattle.slot.proofs.sizes_of.Statement.{statement}
+use Rattle.slot.proofs.sizes_of.Tie as tie
 
 format-of-requires : tie.Need-format-of-requires
 format-of-requires c κs = search needs

@@ -1,0 +1,66 @@
+"""The numbers of docs/slots.svg, read from the specs: what the picture shows is what the promises use.
+
+A reader that does not find the form of words it looks for says so: the spec has changed, and the picture with it.
+"""
+import re
+
+FORMATS, PICH, PCCPCH, STTD = (f"crates/{name}.antt" for name in ("dpch/specs/Formats", "pich/specs/Rule", "pccpch/specs/Rule", "sttd/specs/Rule"))
+
+
+class Unread(Exception):
+    """A spec that does not have the form which is looked for."""
+
+
+def found(tree, path, form):
+    match = re.search(form, tree.text(path), re.M | re.S)
+    if not match:
+        raise Unread(f"{path}: docs/slots.svg reads it by the form {form}, which is not there")
+    return match
+
+
+def listed(tree, path, name):
+    """The rows of a table of formats: each a dictionary from the name of a column to its number. The columns are those of the definition `row`."""
+    columns = found(tree, path, r"^row ([\w ]+) =$")[1].split()
+    table = found(tree, path, rf"^{name} =\n(.*?)\[\]$")[1]
+    rows = [[int(word) for word in line.split()] for line in re.findall(r"\brow ((?:\d+ ?)+)$", table, re.M)]
+    if not rows or any(len(row) != len(columns) for row in rows):
+        raise Unread(f"{path}: a row of {name} does not have the columns {columns}")
+    return [dict(zip(columns, row)) for row in rows]
+
+
+def fields(tree, path):
+    """The fields of a slot in their order: those of the definition `widths`."""
+    return re.findall(r"f \.(\w+)", found(tree, path, r"^widths f = (.*)$")[1])
+
+
+def slots(tree, path, name):
+    """Each format of a table as the list of its fields and widths, and its length. The fields must fill the slot."""
+    order, rows = fields(tree, path), listed(tree, path, name)
+    for row in rows:
+        if sum(row[field] for field in order) != row["slot"]:
+            raise Unread(f"{path}: the fields of {row} do not fill its slot")
+    return [([(field, row[field]) for field in order], row["slot"]) for row in rows]
+
+
+def pich(tree):
+    """The frame's length, where its tail begins, and each Np with the digits of one indicator."""
+    length, tail = map(int, found(tree, PICH, r"^frameOf np indicators = tab (\d+) \(λ \(k : ℕ\)\. cond \(ltb k (\d+)\)").groups())
+    total = int(found(tree, PICH, r"^width np = (\d+) / np$")[1])
+    numbers = [int(np) for np in re.findall(r"eqb np (\d+)", found(tree, PICH, r"^isNp np = (.*?)$")[1])]
+    if total != tail or any(tail % np for np in numbers):
+        raise Unread(f"{PICH}: the indicators do not fill the digits before the tail")
+    return length, tail, [(np, tail // np) for np in numbers]
+
+
+def pccpch(tree):
+    """The length of a slot, its data digits, and the silent digits before them."""
+    slot, data, silent, again = map(int, found(tree, PCCPCH, r"^place d = (\d+) \* \(d / (\d+)\) \+ (\d+) \+ d % (\d+)$").groups())
+    if data != again or silent + data != slot:
+        raise Unread(f"{PCCPCH}: the data digits do not fill what is not silent")
+    return slot, data, silent
+
+
+def block(tree):
+    """What antenna 2 sends for a block b0 b1 b2 b3: for each place the entry, and whether it has a bar."""
+    words = found(tree, STTD, r"^sttd bar \(b0 ∷ b1 ∷ b2 ∷ b3 ∷ rest\) = (.*) ∷ sttd bar rest$")[1].split(" ∷ ")
+    return [(int(word[-1]), word.startswith("bar ")) for word in words]

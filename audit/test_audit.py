@@ -1,0 +1,100 @@
+#!/usr/bin/env python3
+"""A test of the audit: in a copy of the project each plant below is one thing said wrongly, and the audit must find it and nothing else. The copy as it is must pass.
+
+    audit/test_audit.py [ROOT]
+"""
+import pathlib
+import shutil
+import subprocess
+import sys
+import tempfile
+
+sys.dont_write_bytecode = True
+
+import audit
+import names
+
+# What is wrong; the file; the text that is taken out (none: the new text is put at the end); the text that is put in; what a fault must say of it.
+PLANTS = (
+    ("a crate", "README.md", "", "\nThe crate `pich_rd` is not there.\n", "pich_rd"),
+    ("a file", "docs/TRUST.md", "`crates/*/specs/`", "`crates/*/spex/`", "crates/*/spex/"),
+    ("a page in a comment", "crates/run/src/lib.rt", "", "// See docs/NOWHERE.md.\n", "docs/NOWHERE.md"),
+    ("a function", "docs/DECISIONS.md", "`aich::transform`", "`aich::transfer`", "aich::transfer"),
+    ("a theorem", "docs/DEMAND3.md", "`combine-once`", "`combine-twice`", "combine-twice"),
+    ("a theorem of another crate", "docs/DEMAND3.md", "`rows` of `signature`", "`rows` of `pich`", "rows"),
+    ("a theorem of another file", "docs/INTERFACE.md", "`unpacks` in `crates/packed/", "`packs` in `crates/packed/", "packs"),
+    ("a theorem of a row", "docs/PROMISES.md", "`frame-filled` (each", "`read-exakt` (each", "read-exakt"),
+    ("a definition", "docs/DEMAND3.md", "`valuesOf`", "`valuesFor`", "valuesFor"),
+    ("an edit", "docs/DEMAND3.md", "`gains_after_12`", "`wrong_partner`", "wrong_partner"),
+    ("an edit of another crate", "docs/PROMISES.md", "`tail_as_zero`", "`tail_of_zeros`", "tail_"),
+    ("a C function", "docs/INTERFACE.md", "`slt_pich_q(np, pi, sfn)`", "`slt_pich_qq(np, pi, sfn)`", "slt_pich_q"),
+    ("an argument of a C function", "docs/INTERFACE.md", "`slt_pich_q(np, pi, sfn)`", "`slt_pich_q(np, pi)`", "slt_pich_q(np, pi)"),
+    ("a C function that is not exported", "include/slt.h", "slt_pich_q(", "slt_pich_qq(", "slt_pich_q"),
+    ("a type of the header", "include/slt.h", "slt_pich_q(size_t np, size_t pi", "slt_pich_q(size_t np, int64_t pi", "slt_pich_q"),
+    ("a macro", "docs/INTERFACE.md", "`SLT_PLACE(a)`", "`SLT_WHERE(a)`", "SLT_WHERE"),
+    ("a make target", "docs/SPEED.md", "`make bench`", "`make benches`", "make benches"),
+    ("a make target in a block", "README.md", "    make lib ", "    make libs ", "make libs"),
+    ("a file in a block", "README.md", "< examples/all_formats.slt", "< examples/no_formats.slt", "examples/no_formats.slt"),
+    ("a picture that is shown", "README.md", "](docs/crates.svg)", "](docs/creates.svg)", "docs/creates.svg"),
+    ("a refusal that is printed", "docs/JOBFILE.md", "`refused NUMBER PLACE`", "`refused 99 0`", "refused 99 0"),
+    ("a word of the man page", "packaging/slotline.1", ".I docs/JOBFILE.md", ".I docs/JOBS.md", "docs/JOBS.md"),
+    ("a backtick", "docs/SPEED.md", "", "\nOne ` alone.\n", "backtick"),
+    ("a section", "crates/pich/src/lib.rt", "", "// docs/RULES.md, 'PICH' and\n// 'PICH tail'.\n", "PICH tail"),
+    ("a document", "crates/pich/src/lib.rt", "", "// As document" + " 01 has it.\n", "document"),
+    ("a refusal of the rules", "docs/RULES.md", "\n| 7 |", "\n| 77 |", "docs/RULES.md: refusal 7"),
+    ("a refusal of the interface", "docs/INTERFACE.md", "\n| 12 | both", "\n| 14 | both", "docs/INTERFACE.md: refusal 1"),
+    ("a refusal of the job file", "docs/JOBFILE.md", "| 8 | 0 |", "| 18 | 0 |", "refusal "),
+    ("a refusal of the man page", "packaging/slotline.1", ".B 8\n", ".B 18\n", "packaging/slotline.1: refusal "),
+    ("a refusal of the header", "include/slt.h", "SLT_REFUSED_PILOT 7u", "SLT_REFUSED_PILOT 17u", "PILOT = "),
+    ("a refusal of the code", "crates/run/src/refusal.rt", "PILOT: usize = 7;", "PILOT: usize = 17;", "PILOT"),
+    ("a crate that a picture lacks", "crates.txt", "\nslotline: run", "\nslotlines: run", ""),
+    ("a line of a picture", "docs/slots.svg", "format 16", "format 17", "docs/slots.svg"),
+    ("a number of a picture", "crates/dpch/specs/Formats.antt", "row 0 4 2 0 4 10", "row 0 2 4 0 4 10", ""),
+    ("a form that a picture reads", "crates/pich/specs/Rule.antt", "width np = 288 / np", "width np = 288 / (np + 0)", "docs/slots.svg"),
+    ("a format of the rules", "docs/RULES.md", "\n| 9 | 6 | 26 |", "\n| 9 | 6 | 24 |", "docs/RULES.md"),
+    ("a refusal of the specs", "crates/run/specs/Refusals.antt", "pilotRefused = 7", "pilotRefused = 17", ""),
+)
+
+
+def planted(copy, plant):
+    """The faults of the copy with one plant in it."""
+    what, name, old, new, sign = plant
+    path = copy / name
+    before = path.read_text(encoding="utf-8")
+    if old and old not in before:
+        return [f"the text that is to be replaced does not stand in {name}"]
+    path.write_text(before.replace(old, new, 1) if old else before + new, encoding="utf-8")
+    found = audit.faults(copy)
+    path.write_text(before, encoding="utf-8")
+    return found
+
+
+def command(copy):
+    """The audit as the gate runs it: whether it passes."""
+    return subprocess.run([sys.executable, "-B", copy / "audit/audit.py"], capture_output=True).returncode == 0
+
+
+def try_plants(copy):
+    for plant in PLANTS:
+        found = planted(copy, plant)
+        if not found:
+            yield f"{plant[0]}: a wrong one in {plant[1]} is not found"
+        yield from (f"{plant[0]}: it says '{fault}'" for fault in found if plant[4] not in fault)
+
+
+def main():
+    root = pathlib.Path(sys.argv[1] if len(sys.argv) > 1 else pathlib.Path(__file__).resolve().parent.parent)
+    with tempfile.TemporaryDirectory() as folder:
+        copy = pathlib.Path(folder) / "copy"
+        shutil.copytree(root, copy, ignore=shutil.ignore_patterns(*names.MADE))
+        wrong = [f"the untouched copy: {fault}" for fault in audit.faults(copy)] or list(try_plants(copy))
+        passes = command(copy)
+        (copy / "README.md").write_text("A page without the crate `run_to`.\n", encoding="utf-8")
+        if not passes or command(copy):
+            wrong.append("the command does not pass on the untouched copy, or passes on another")
+    if wrong:
+        sys.exit("\n".join(wrong) + f"\ntest of the audit: {len(wrong)} wrong")
+    print(f"test of the audit: {len(PLANTS)} plants, each found")
+
+
+main()
