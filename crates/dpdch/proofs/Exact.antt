@@ -2,7 +2,7 @@
 -- Assumes nothing.
 use mathlib.Core.Path.{_≡_, sym, ap, _∙_, subst}
 use mathlib.Core.List.{List}
-use Prim.Native.Nat.{ℕ, _*_, _≤_, _<_}
+use Prim.Native.Nat.{ℕ, _*_}
 use native.Mathlib.Nat.{one-mul}
 use native.Mathlib.Omega.{arith}
 use lib.ListN.{length}
@@ -14,7 +14,7 @@ use Rattle.dpch.specs.Uplink.{dpdchSize}
 use Rattle.dpdch.specs.Rule.{slotOf, dataIn, frameOf, frameDataIn}
 use Rattle.dpdch.specs.Outcome.{slotsVerdict}
 use Rattle.dpdch.specs.Exact.{Gives, Exact, ReadExact, FrameReadExact, FrameSlots, MapOnce, ReadOnce, FrameMapOnce, FrameReadOnce, Packs}
-use Rattle.dpdch.proofs.Laws.{slot-plain, data-plain, frame-plain, frame-data-plain, Taken, taken, taken-pass, slots-narrow}
+use Rattle.dpdch.proofs.Laws.{slot-plain, data-plain, frame-plain, frame-data-plain, Taken, taken, slots-narrow}
 
 -- of so many slots: what is written and what is handed back is the run as it is
 module _ (slots format size : ℕ) (is : size ≡ slots * dpdchSize format) (written handed : List ℕ → List ℕ)

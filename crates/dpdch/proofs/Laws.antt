@@ -1,9 +1,9 @@
 -- The digits of a slot and of a frame are its data, one after the other.
 -- Assumes nothing.
-use mathlib.Core.Path.{_≡_, refl, sym, ap, _∙_, subst}
+use mathlib.Core.Path.{_≡_, refl, sym, ap, _∙_}
 use mathlib.Core.Bool.{Bool, true, false}
 use mathlib.Core.List.{List, [], _∷_, append-nil}
-use Prim.Native.Nat.{ℕ, _+_, _*_, _≤_, _<_}
+use Prim.Native.Nat.{ℕ, _*_, _≤_, _<_}
 use native.Mathlib.Nat.{mul-le-mul-right}
 use native.Mathlib.Omega.{arith}
 use borrow.Author.Tests.{eqb-true, eqb-false, eq-eqb}
@@ -11,7 +11,7 @@ use lib.Dec.{eqb, lit<}
 use lib.ListN.{length}
 use Rattle.run.specs.declared.Verdict.{Verdict}
 use Rattle.run.specs.First.{Every, atMost}
-use Rattle.run.specs.Fields.{total, cut, joined, field}
+use Rattle.run.specs.Fields.{cut, joined, field}
 use Rattle.run.specs.Parts.{part}
 use Rattle.run.specs.Table.{tab}
 use Rattle.run.specs.Verdicts.{done, leaves, Narrow}

@@ -1,7 +1,6 @@
 -- The theorems of specs/Exact.antt.
 -- Assumes nothing.
 use mathlib.Core.Path.{_≡_, refl, sym, ap, _∙_, subst}
-use mathlib.Core.Bool.{Bool}
 use mathlib.Core.List.{List}
 use Prim.Native.Nat.{ℕ, _*_, _<_}
 use native.Mathlib.Omega.{arith}
@@ -10,10 +9,11 @@ use lib.ListN.{length, getD}
 use Rattle.run.specs.Fields.{joined}
 use Rattle.run.specs.Parts.{part}
 use Rattle.run.specs.Verdicts.{done, Narrow}
-use Rattle.run.proofs.Chain.{or-else-pass, chain-pass, or-else-narrow, check-narrow, lengths-narrow, chain-narrow, one-outcome, number-0}
+use Rattle.run.proofs.Chain.{or-else-pass, chain-pass, or-else-narrow, chain-narrow, one-outcome, number-0}
 use Rattle.run.proofs.Parts.{part-room, part-length, joined-part}
 use Rattle.run.proofs.Table.{tab-same, tab-is}
 use Rattle.dpch.specs.Formats.{formatOf}
+use Rattle.dpch.proofs.Heads.{frame-head-narrow}
 use Rattle.slot.specs.Rule as slot
 use Rattle.slot.specs.Rule.{dataSize, commandIn}
 use Rattle.slot.specs.Outcome as slot-outcome
@@ -21,7 +21,7 @@ use Rattle.slot.proofs.Laws.{sound-format, data-small, tfci-small}
 use Rattle.slot.proofs.Accept as slot-accept
 use Rattle.slot.proofs.Exact as slot-exact
 use Rattle.frame.specs.Rule.{slotAt, frameOf, dataIn, tfciIn, commandsIn}
-use Rattle.frame.specs.Outcome.{head, mapHead, slotFields, mapVerdict, readHead, slotDigits, readVerdict}
+use Rattle.frame.specs.Outcome.{mapHead, slotFields, mapVerdict, readHead, slotDigits, readVerdict}
 use Rattle.frame.specs.Ready.{Ready}
 use Rattle.frame.specs.Exact.{Gives, Fields, ReadExact, FrameSlots, MapOnce, ReadOnce, Packs}
 use Rattle.frame.proofs.Laws.{frame-length, frame-slot, data-of, tfci-of, data-in-length, tfci-in-length, commands-in-length, command-of}
@@ -169,15 +169,10 @@ pub read-once : ReadOnce
 read-once format xs d tfci commands a b x y s t u v p r =
     (one-outcome (p .verdict-is) (r .verdict-is), one-outcome (p .data-is) (r .data-is), one-outcome (p .tfci-is) (r .tfci-is), one-outcome (p .commands-is) (r .commands-is))
 
--- format and lengths: 1 and 3
-head-narrow : (format : ℕ) (right : List Bool) → length right < 4294967296 → Narrow (head format right)
-unfolding head
-head-narrow format right h = check-narrow _ 1 0 _ (lit< tt) (lit< tt) (lit< tt) (λ _. lengths-narrow right h)
-
 map-narrow : (format : ℕ) (d tfci : List ℕ) (outLength : ℕ) (commands : List ℕ) → Narrow (mapVerdict format d tfci outLength commands)
 unfolding mapVerdict mapHead
 map-narrow format d tfci outLength commands =
-    or-else-narrow _ _ (head-narrow format _ (lit< tt))
+    or-else-narrow _ _ (frame-head-narrow 16 format _ (lit< tt))
     (λ e. chain-narrow 15 _ (λ k h.
     let r = map-headed format (length d) (length tfci) outLength (length commands) e .fields in
     let n = part-length k 15 (dataSize (formatOf format)) d h (r .data-ok) in
@@ -191,7 +186,7 @@ map-narrow format d tfci outLength commands =
 read-narrow : (format : ℕ) (xs : List ℕ) (dataLength tfciLength commandsLength : ℕ) → Narrow (readVerdict format xs dataLength tfciLength commandsLength)
 unfolding readVerdict readHead
 read-narrow format xs dataLength tfciLength commandsLength =
-    or-else-narrow _ _ (head-narrow format _ (lit< tt))
+    or-else-narrow _ _ (frame-head-narrow 16 format _ (lit< tt))
     (λ e. chain-narrow 15 _ (λ k h.
     let room = read-headed format (length xs) dataLength tfciLength commandsLength e in
     let a = part-room k 15 (formatOf format .slot) h in

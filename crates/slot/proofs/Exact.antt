@@ -16,14 +16,15 @@ use Rattle.run.specs.Fields.{cut, joined, field, start}
 use Rattle.run.specs.Verdicts.{done, leaves, Narrow}
 use Rattle.run.proofs.First.{no-diff, diff-none}
 use Rattle.run.proofs.Each.{each-take, each-drop, each-append, each-same, each-joined, all-first, first-no-dtx}
-use Rattle.run.proofs.Chain.{or-else-pass, or-else-narrow, check-narrow, each-narrow, lengths-narrow, leaves-done, leaves-refused, one-outcome, number-0}
+use Rattle.run.proofs.Chain.{or-else-pass, or-else-narrow, check-narrow, each-narrow, leaves-done, leaves-refused, one-outcome, number-0}
 use Rattle.run.proofs.Fields.{joined-cut, cut-joined, field-at, field-is, field-room}
 use Rattle.dpch.specs.declared.Format.{Format}
 use Rattle.dpch.specs.Formats.{formatOf, widths}
 use Rattle.dpch.specs.Pilots.{pilotOf}
 use Rattle.dpch.proofs.Exact.{format-sizes, format-pilots}
+use Rattle.dpch.proofs.Heads.{slot-head-narrow}
 use Rattle.slot.specs.Rule.{dataSize, fieldsOf, slotOf, tpcIn, tfciIn, pilotIn, dataIn, commandIn}
-use Rattle.slot.specs.Outcome.{head, mapHead, fieldsVerdict, mapVerdict, readHead, digitsVerdict, readVerdict}
+use Rattle.slot.specs.Outcome.{mapHead, fieldsVerdict, mapVerdict, readHead, digitsVerdict, readVerdict}
 use Rattle.slot.specs.Ready.{Sound, Whole}
 use Rattle.slot.specs.Exact.{Gives, Fields, ReadExact, SlotCuts, SlotPlaced, MapOnce, ReadOnce, Packs}
 use Rattle.slot.proofs.Laws.{sound-format, start-data1, start-tpc, start-tfci, start-data2, start-pilot, fields-widths, field-of, slot-length, field-long, data-length, data-small}
@@ -278,16 +279,10 @@ digits-narrow format slot xs base long h =
         let s = field-small format k l in
         omega arith
 
--- numbers and lengths: 1, 2 and 3
-head-narrow : (format slot : ℕ) (right : List Bool) → length right < 4294967296 → Narrow (head format slot right)
-unfolding head
-head-narrow format slot right h =
-    check-narrow _ 1 0 _ (lit< tt) (lit< tt) (lit< tt) (λ _. check-narrow _ 2 0 _ (lit< tt) (lit< tt) (lit< tt) (λ _. lengths-narrow right h))
-
 map-narrow : (format slot tpc : ℕ) (d tfci : List ℕ) (outLength : ℕ) → Narrow (mapVerdict format slot tpc d tfci outLength)
 unfolding mapVerdict mapHead
 map-narrow format slot tpc d tfci outLength =
-    or-else-narrow _ _ (head-narrow format slot _ (lit< tt))
+    or-else-narrow _ _ (slot-head-narrow 16 format _ slot (lit< tt))
     (λ e.
     let r = map-headed format slot (length d) (length tfci) outLength e .ready in
     let n = data-small format in
@@ -299,7 +294,7 @@ map-narrow format slot tpc d tfci outLength =
 read-narrow : (format slot : ℕ) (xs : List ℕ) (dataLength tfciLength : ℕ) → Narrow (readVerdict format slot xs dataLength tfciLength)
 unfolding readVerdict readHead
 read-narrow format slot xs dataLength tfciLength =
-    or-else-narrow _ _ (head-narrow format slot _ (lit< tt)) (λ e. digits-narrow format slot xs 0 (read-headed format slot (length xs) dataLength tfciLength e .ready .slot-ok) (omega arith))
+    or-else-narrow _ _ (slot-head-narrow 16 format _ slot (lit< tt)) (λ e. digits-narrow format slot xs 0 (read-headed format slot (length xs) dataLength tfciLength e .ready .slot-ok) (omega arith))
 
 -- the answered command, 0 where refused, fits 16 bits
 pub command-fits : (format slot : ℕ) (xs : List ℕ) (dataLength tfciLength : ℕ)

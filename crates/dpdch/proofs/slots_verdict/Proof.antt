@@ -2,7 +2,6 @@
 -- Assumes nothing.
 use mathlib.Core.Path.{sym, _∙_}
 use native.Mathlib.Omega.{arith}
-use native.Mathlib.Nat.{mul-le-mul-right}
 use Rattle.run.proofs.Chain.{or-else-refused, or-else-next, each-is}
 use Rattle.dpdch.specs.Outcome.{slotsVerdict}
 use Rattle.dpdch.proofs.Laws.{slots-small, head-is}
