@@ -30,6 +30,12 @@ pub struct Dpcch {
     pub slot: usize,
 }
 
+// What a reader of slots answers: the TPC command, 0 where refused.
+pub struct Command {
+    pub verdict: Verdict,
+    pub tpc: usize,
+}
+
 // The format of a number, a row of zeros where there is none. A match becomes a table in read-only memory.
 pub fn format_of(n: usize) -> Format
     ensures { λ r. ⌜ r ≡ formatOf n ⌝ }

@@ -209,6 +209,15 @@ pub leaves-refused : {A : Type 0} (v : Verdict) (new old : A) → (v .number ≡
 unfolding leaves
 leaves-refused v new old e = rw (ne-eqb (v .number) 0 e)
 
+-- a value answered beside a verdict, 0 where it refuses, is small where it is small when the call is done
+pub leaves-small : (v : Verdict) (value top : ℕ) → (v .number ≡ 0 → value < top) → 0 < top → leaves v value 0 < top
+unfolding leaves
+leaves-small v value top small some = pick (eqb (v .number) 0) refl
+  where
+    pick : (b : Bool) → eqb (v .number) 0 ≡ b → cond b value 0 < top
+    pick true e = small (eqb-true _ _ e)
+    pick false e = some
+
 -- two outcomes that equal one definition are equal: so a promise by equations allows one outcome
 pub one-outcome : {A : Type 0} {x y z : A} → x ≡ z → y ≡ z → x ≡ y
 one-outcome p q = p ∙ sym q

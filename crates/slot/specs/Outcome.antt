@@ -11,10 +11,10 @@ use Rattle.run.specs.Fields.{start}
 use Rattle.run.specs.Refusals.{lengthRefused, digitRefused, tpcRefused, tfciRefused, pilotRefused}
 use Rattle.run.specs.Verdicts.{orElse, unless, each, leaves}
 use Rattle.dpch.specs.declared.Format.{Format}
+use Rattle.dpch.specs.declared.Command.{Command}
 use Rattle.dpch.specs.Formats.{formatOf, widths, silenceAllowed}
 use Rattle.dpch.specs.Heads.{slotHead}
 use Rattle.dpch.specs.Pilots.{pilotOf}
-use Rattle.slot.specs.declared.Command.{Command}
 use Rattle.slot.specs.Rule.{dataSize, slotOf, tpcIn, tfciIn, pilotIn, dataIn, commandIn, tfciStands}
 
 -- map: 1, 2, 3 (data, TFCI, output) ..

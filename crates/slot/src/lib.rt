@@ -5,12 +5,6 @@ ghost use mathlib.Core.Path.{_≡_};
 ghost use Rattle.slot.specs.Outcome.{mapHead, readHead};
 ghost use Rattle.slot.specs.Ready.{SizesOf};
 
-// What `read` answers: the TPC command, 0 where refused.
-pub struct Command {
-    pub verdict: Verdict,
-    pub tpc: usize,
-}
-
 // The lengths of one slot's runs.
 pub struct Sizes {
     pub data: usize,
