@@ -85,17 +85,17 @@ pub fn sum(terms: &[(i32, Vec<i32>)]) -> Vec<i32> {
     (0..terms[0].1.len()).map(|j| terms.iter().map(|(times, run)| times * run[j]).sum()).collect()
 }
 
+/// Every run of the given length over 0, 1 and DTX.
+pub fn every_run(length: u32) -> impl Iterator<Item = Vec<u8>> {
+    (0..3_usize.pow(length)).map(move |set| (0..length).map(|j| (set / 3_usize.pow(j) % 3) as u8).collect())
+}
+
 #[cfg(test)]
 mod tests {
-    use super::{Kept, adds, kept, product};
+    use super::{Kept, adds, by_blocks, every_run, kept, product, sum};
     use crate::random::Random;
     use crate::rules::combiner::Complex;
     use crate::rules::sttd::{bar, encoded, negated, value};
-
-    /// Every run of the given length over 0, 1 and DTX.
-    fn every_run(length: u32) -> impl Iterator<Item = Vec<u8>> {
-        (0..3_usize.pow(length)).map(move |set| (0..length).map(|j| (set / 3_usize.pow(j) % 3) as u8).collect())
-    }
 
     fn random_run(random: &mut Random, length: usize) -> Vec<i32> {
         (0..length).map(|_| random.below(201) as i32 - 100).collect()
@@ -135,14 +135,9 @@ mod tests {
 
     type Slip = fn(&[u8]) -> [u8; 4];
 
-    fn with_slip(slip: Slip, run: &[u8]) -> Vec<u8> {
-        let (whole, tail) = run.split_at(run.len() / 4 * 4);
-        whole.chunks(4).flat_map(slip).chain(tail.iter().copied()).collect()
-    }
-
     fn kept_with(slip: Slip) -> Kept {
         let runs = every_run(4).chain(every_run(8));
-        runs.map(|run| kept(|s| with_slip(slip, s), bar, value, &run)).fold(Kept::ALL, Kept::and)
+        runs.map(|run| kept(|s| by_blocks(s, slip), bar, value, &run)).fold(Kept::ALL, Kept::and)
     }
 
     const NONE: Kept = Kept { twice: false, three: false, four: false, block: false, blocks: false };
@@ -173,7 +168,9 @@ mod tests {
     fn the_reader_keeps_the_laws_too() {
         let reader: Slip = |b| [b[2], bar(b[3]), bar(b[0]), b[1]];
         assert_eq!(kept_with(reader), Kept { three: false, ..Kept::ALL });
-        assert!(every_run(4).any(|run| with_slip(reader, &run) != encoded(bar, &run)));
+        let of_values = |run: &[i32]| by_blocks(run, |b| [b[2], -b[3], -b[0], b[1]]);
+        assert!(adds(of_values, &[(2, vec![3, -1, 2, 5]), (-1, vec![1, 4, -2, 0])]));
+        assert!(every_run(4).any(|run| by_blocks(&run, reader) != encoded(bar, &run)));
     }
 
     /// Half a block that is encoded as if it were one.
@@ -198,12 +195,52 @@ mod tests {
         assert!(adds(|run| encoded(negated, run), &[(1, s), (1, t)]));
     }
 
-    /// Behind the last whole block both antennas send the same symbol, which adds its own power.
+    // The worked blocks of docs/STTD.md.
+
+    /// What `times` encodings make of a run.
+    fn chained<T: Copy>(bar: fn(T) -> T, run: &[T], times: usize) -> Vec<T> {
+        (0..times).fold(run.to_vec(), |s, _| encoded(bar, &s))
+    }
+
     #[test]
-    fn a_tail_does_not_cancel() {
-        let run = [3, 4, 1, 2, 5, 6];
-        let other = encoded(negated, &run);
-        assert_eq!(product(&run, &other, 0, 2), Complex::new(0, 0));
-        assert_eq!(product(&run, &other, 0, 3), Complex::new(61, 0));
+    fn worked_chains() {
+        let d: [[u8; 4]; 5] = [[0, 0, 0, 1], [1, 1, 0, 1], [1, 1, 1, 0], [0, 0, 1, 0], [0, 0, 0, 1]];
+        let e: [[u8; 4]; 3] = [[1, 2, 0, 2], [1, 2, 1, 2], [0, 2, 1, 2]];
+        let v = [[3, -1, 2, 5], [-2, 5, 3, 1], [-3, 1, -2, -5]];
+        let tail = [[3, 4, 1, 2, 5, 6], [-1, 2, 3, -4, 5, 6], [-3, -4, -1, -2, 5, 6]];
+        (0..5).for_each(|times| assert_eq!(chained(bar, &d[0], times), d[times]));
+        (0..3).for_each(|times| assert_eq!(chained(bar, &e[0], times), e[times]));
+        (0..3).for_each(|times| assert_eq!(chained(negated, &v[0], times), v[times]));
+        (0..3).for_each(|times| assert_eq!(chained(negated, &tail[0], times), tail[times]));
+        assert_eq!(encoded(bar, &[0; 8]), [1, 0, 0, 1, 1, 0, 0, 1]);
+        assert_eq!((encoded(bar, &[0; 2]), encoded(bar, &[0; 6])), (vec![0, 0], vec![1, 0, 0, 1, 0, 0]));
+    }
+
+    /// The products of both symbols of each block. Behind the last whole block both antennas send the same symbol,
+    /// which adds its own power.
+    #[test]
+    fn worked_products() {
+        let values = |run: [u8; 4]| run.map(value).to_vec();
+        assert_eq!((values([0, 0, 0, 1]), values([1, 1, 0, 1])), (vec![1, 1, 1, -1], vec![-1, -1, 1, -1]));
+        assert_eq!((values([1, 2, 0, 2]), values([1, 2, 1, 2])), (vec![-1, 0, 1, 0], vec![-1, 0, -1, 0]));
+        assert_eq!(encoded(negated, &[1, 1, 1, -1]), [-1, -1, 1, -1]);
+        let of = |run: &[i32], k: usize| product(run, &encoded(negated, run), k, k + 1);
+        let (d, e, v) = ([1, 1, 1, -1], [-1, 0, 1, 0], [3, -1, 2, 5]);
+        assert_eq!((of(&d, 0), of(&d, 1)), (Complex::new(-2, 0), Complex::new(2, 0)));
+        assert_eq!((of(&e, 0), of(&e, 1)), (Complex::new(1, 0), Complex::new(-1, 0)));
+        assert_eq!((of(&v, 0), of(&v, 1)), (Complex::new(-11, -13), Complex::new(11, 13)));
+        let tail = [3, 4, 1, 2, 5, 6];
+        assert_eq!(product(&tail, &encoded(negated, &tail), 0, 2), Complex::new(0, 0));
+        assert_eq!(of(&tail, 2), Complex::new(61, 0));
+    }
+
+    #[test]
+    fn worked_sums() {
+        let (v, w) = (vec![3, -1, 2, 5], vec![1, 4, -2, 0]);
+        assert_eq!(encoded(negated, &w), [2, 0, 1, -4]);
+        assert_eq!(sum(&[(1, v.clone()), (1, w)]), [4, 3, 0, 5]);
+        assert_eq!(encoded(negated, &[4, 3, 0, 5]), [0, 5, 4, -3]);
+        assert_eq!(sum(&[(3, v)]), [9, -3, 6, 15]);
+        assert_eq!(encoded(negated, &[9, -3, 6, 15]), [-6, 15, 9, 3]);
     }
 }

@@ -4,7 +4,7 @@ use super::lengths;
 use crate::answer::Answer;
 use crate::ffi;
 use crate::judge::{Judge, room_in_words, shortened};
-use crate::laws::{self, Kept};
+use crate::laws::{self, Kept, every_run};
 use crate::lent::Lent;
 use crate::random::Random;
 use crate::rules::sttd::{self as rules, VALUES};
@@ -72,8 +72,7 @@ fn every_block(judge: &mut Judge) {
         let block: Vec<u8> = (0..4).map(|place| choices[set / 5_usize.pow(place) % 5]).collect();
         digits(judge, Some(&block), Some(4));
     }
-    for set in 0..3_usize.pow(8) {
-        let blocks: Vec<u8> = (0..8).map(|place| (set / 3_usize.pow(place) % 3) as u8).collect();
+    for blocks in every_run(8) {
         digits(judge, Some(&blocks), Some(8));
     }
 }
@@ -211,10 +210,7 @@ fn signatures_before_summing(judge: &mut Judge) {
 /// Every block and every two blocks, and longer runs.
 fn laws_of_digits(judge: &mut Judge) {
     let mut random = Random::new(6);
-    let short = [4, 8].into_iter().flat_map(|length: u32| {
-        (0..3_usize.pow(length)).map(move |set| (0..length).map(|j| (set / 3_usize.pow(j) % 3) as u8).collect())
-    });
-    let mut runs: Vec<Vec<u8>> = short.collect();
+    let mut runs: Vec<Vec<u8>> = every_run(4).chain(every_run(8)).collect();
     for length in (0..=300).step_by(4) {
         runs.push(random.digits(length, 3));
         runs.push(random.digits(length, 2));
