@@ -6,7 +6,7 @@ use Prim.Native.Nat.{ℕ, zero, suc, _-_, _≤_, _<_}
 use native.Mathlib.Omega.{arith}
 use borrow.Author.Tests.{ltb-true, ltb-false, ne-eqb, le-ltb}
 use lib.Bits.{bitXor, xor-zero-r}
-use lib.Dec.{ltb, leb, lit<}
+use lib.Dec.{eqb, ltb, leb, lit<}
 use lib.IntN.{ℤ, pos, negsuc, negℤ, _-ℤ_}
 use mir.Syntax.{w32}
 use mir.Val.{SFits, boolByte, toZ, ofZ}
@@ -25,10 +25,12 @@ bar-bit zero h = refl
 bar-bit (suc zero) h = refl
 bar-bit (suc (suc d)) h = absurd (let z : ⊥ = omega arith in z)
 
+no-bit : (d : ℕ) → 2 ≤ d → (eqb d 0 ≡ false) × (eqb d 1 ≡ false)
+no-bit d h = (ne-eqb d 0 (λ e. absurd (let z : ⊥ = omega arith in z)), ne-eqb d 1 (λ e. absurd (let z : ⊥ = omega arith in z)))
+
 bar-other : (d : ℕ) → 2 ≤ d → barDigit d ≡ d
 unfolding barDigit
-bar-other d h =
-    rw (ne-eqb d 0 (λ e. absurd (let z : ⊥ = omega arith in z)), ne-eqb d 1 (λ e. absurd (let z : ⊥ = omega arith in z)))
+bar-other d h = rw (no-bit d h .0, no-bit d h .1)
 
 -- as the code has it: the lowest bit changes where the digit is below 2
 pub bar-by-bit : (d : ℕ) → bitXor d (boolByte (ltb d 2)) ≡ barDigit d
@@ -52,16 +54,13 @@ bar-twice d = side (ltb d 2) refl
         ap barDigit (bar-other d h) ∙ bar-other d h
 
 -- the value of a digit's bar is the negative of its value
-value-other : (d : ℕ) → 2 ≤ d → digitValue d ≡ pos 0
-unfolding digitValue
-value-other d h =
-    rw (ne-eqb d 0 (λ e. absurd (let z : ⊥ = omega arith in z)), ne-eqb d 1 (λ e. absurd (let z : ⊥ = omega arith in z)))
-
 pub bar-negates : (d : ℕ) → digitValue (barDigit d) ≡ negℤ (digitValue d)
 unfolding barDigit digitValue
 bar-negates zero = refl
 bar-negates (suc zero) = refl
-bar-negates (suc (suc d)) = rw (bar-other (suc (suc d)) (omega arith), value-other (suc (suc d)) (omega arith))
+bar-negates (suc (suc d)) =
+    let h : 2 ≤ suc (suc d) = omega arith in
+    rw (bar-other (suc (suc d)) h, no-bit (suc (suc d)) h .0, no-bit (suc (suc d)) h .1)
 
 -- a bit's bar is a bit
 pub bar-keeps-bit : (d : ℕ) → d ≤ 1 → barDigit d ≤ 1
