@@ -62,11 +62,13 @@ second: lib judges
 	cd second && cargo run --quiet --release --offline
 
 # The program on many job files and on the examples, against the text of the second program's rules; then the generator
-# that docs/JOBFILE.md shows, whose job the rules print as well.
+# that docs/JOBFILE.md shows, whose job the rules print as well, and the mistakes in it that the page lists.
 jobs: judges slotline
 	$(SECOND)/jobs $(abspath $(SLOTLINE)) examples
 	sh examples/try_generator.sh $(abspath $(SLOTLINE)) target/generator
 	$(SECOND)/jobs --print < target/generator/job.slt | cmp - target/generator/expected
+	python3 examples/try_mistakes.py $(SLOTLINE)
+	python3 examples/try_mistakes.py $(SECOND)/jobs --print
 
 # The questions that the program cases is given and the text that it must print, printed anew by the second program; rt ci runs cases itself on these
 # questions and compares what it prints with the same text.

@@ -29,7 +29,7 @@ static void draw_fields(struct slot_row *r, size_t format) {
     }
     draw_digits(r->data, r->n_data, 3);
     draw_digits(r->tfci, r->n_tfci, 2);
-    if (format >= DTX_TFCI_FROM && draw_below(4) == 0) memset(r->tfci, DTX, r->n_tfci);
+    if (draw_below(4) == 0) memset(r->tfci, DTX, r->n_tfci);
 }
 
 static void damage_numbers(struct slot_row *r) {

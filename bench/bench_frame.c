@@ -28,7 +28,7 @@ static void draw_fields(struct frame_row *r, size_t format) {
     for (size_t i = 0; i < SETS; i++) draw_digits(r->commands[i], SLOTS, 2);
     draw_digits(r->data, r->n_data, 3);
     draw_digits(r->tfci, r->n_tfci, 2);
-    if (format >= DTX_TFCI_FROM) memset(r->tfci + draw_below(SLOTS) * f->tfci, DTX, f->tfci);
+    memset(r->tfci + draw_below(SLOTS) * f->tfci, DTX, f->tfci);
 }
 
 static void damage_numbers(struct frame_row *r) {

@@ -6,7 +6,7 @@
 
 #include "parts.h"
 
-enum { SLOTS = 15, FORMAT_COUNT = 17, DTX_TFCI_FROM = 12 };
+enum { SLOTS = 15, FORMAT_COUNT = 17 };
 
 struct format {
     uint16_t data1, data2, tpc, tfci, pilot, slot;

@@ -11,7 +11,7 @@ uint64_t plain_slot_map(size_t format, size_t slot, size_t tpc, const uint8_t *d
     if (n_data != data_of(f)) return refuse(3, 0);
     if (n_tfci != f->tfci) return refuse(3, 1);
     if (n_out != f->slot) return refuse(3, 2);
-    uint64_t refusal = check_fields(format, 0, tpc, data, tfci);
+    uint64_t refusal = check_fields(f, 0, tpc, data, tfci);
     if (refusal) return refusal;
     write_slot(f, slot, tpc, data, tfci, out);
     return 0;
@@ -25,7 +25,7 @@ uint64_t plain_slot_read(size_t format, size_t slot, const uint8_t *run, size_t 
     if (n_run != f->slot) return refuse(3, 0);
     if (n_data != data_of(f)) return refuse(3, 1);
     if (n_tfci != f->tfci) return refuse(3, 2);
-    uint64_t refusal = check_slot(format, slot, run, 0);
+    uint64_t refusal = check_slot(f, slot, run, 0);
     if (refusal) return refusal;
     take_fields(f, run, data, tfci);
     return (uint64_t)run[f->data1] << 48;

@@ -13,7 +13,7 @@ uint64_t plain_frame_map(size_t format, const uint8_t *data, size_t n_data, cons
     if (n_out != (size_t)SLOTS * f->slot) return refuse(3, 2);
     if (n_commands != SLOTS) return refuse(3, 3);
     for (size_t slot = 0; slot < SLOTS; slot++) {
-        uint64_t refusal = check_fields(format, slot, commands[slot], data, tfci);
+        uint64_t refusal = check_fields(f, slot, commands[slot], data, tfci);
         if (refusal) return refusal;
     }
     for (size_t slot = 0; slot < SLOTS; slot++) {
@@ -32,7 +32,7 @@ uint64_t plain_frame_read(size_t format, const uint8_t *frame, size_t n_frame, u
     if (n_tfci != (size_t)SLOTS * f->tfci) return refuse(3, 2);
     if (n_commands != SLOTS) return refuse(3, 3);
     for (size_t slot = 0; slot < SLOTS; slot++) {
-        uint64_t refusal = check_slot(format, slot, frame + slot * f->slot, slot * f->slot);
+        uint64_t refusal = check_slot(f, slot, frame + slot * f->slot, slot * f->slot);
         if (refusal) return refusal;
     }
     for (size_t slot = 0; slot < SLOTS; slot++) {

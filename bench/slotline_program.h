@@ -7,7 +7,10 @@
 #include "pich.h"
 #include "yardsticks.h"
 
-enum { LONGEST = 65535, HEADER = 6, KIND_AICH = 1, KIND_PICH = 2, KIND_DPCH = 3 };
+enum { LONGEST = 65535, MARK = 3, HEADER = 6, KIND_AICH = 1, KIND_PICH = 2, KIND_DPCH = 3 };
+
+/* What can be wrong with the file itself. */
+enum { OVER_LONG = 20, WRONG_MARK, UNKNOWN_VERSION, UNKNOWN_KIND, ENDS_EARLY, BYTES_AFTER };
 
 /* No line is longer than that of format 16, which has 1292 bytes; the first line and a refusal are short. */
 enum { ROOM = 255 * 1292 + 64 };
@@ -44,7 +47,7 @@ static void put_digits(const uint8_t *run, size_t n) {
 
 static uint64_t aich(size_t n, size_t *at) {
     int32_t indicators[16], values[32];
-    if (n - *at < 16) return refuse(13, n);
+    if (n - *at < 16) return refuse(ENDS_EARLY, n);
     for (size_t s = 0; s < 16; s++) {
         uint8_t byte = file[*at + s];
         indicators[s] = byte == 2 ? -1 : byte;
@@ -62,10 +65,10 @@ static uint64_t aich(size_t n, size_t *at) {
 
 static uint64_t pich(size_t n, size_t *at) {
     uint8_t frame[PICH_FRAME];
-    if (*at == n) return refuse(13, n);
+    if (*at == n) return refuse(ENDS_EARLY, n);
     size_t np = file[(*at)++];
     if (!is_np(np)) return refuse(8, 0);
-    if (n - *at < np) return refuse(13, n);
+    if (n - *at < np) return refuse(ENDS_EARLY, n);
     uint64_t refusal = MAPPED(pich_map)(np, file + *at, np, frame, PICH_FRAME);
     if (refusal) return refusal;
     put_text("PICH ");
@@ -78,12 +81,12 @@ static uint64_t pich(size_t n, size_t *at) {
 
 static uint64_t dpch(size_t n, size_t *at) {
     uint8_t out[1280];
-    if (*at == n) return refuse(13, n);
+    if (*at == n) return refuse(ENDS_EARLY, n);
     size_t format = file[(*at)++];
     if (format > 16) return refuse(1, 0);
     const struct format *f = &FORMATS[format];
     size_t n_data = data_of(f), n_tfci = f->tfci;
-    if (n - *at < 2 + n_tfci + n_data) return refuse(13, n);
+    if (n - *at < 2 + n_tfci + n_data) return refuse(ENDS_EARLY, n);
     size_t slot = file[*at], tpc = file[*at + 1];
     const uint8_t *tfci = file + *at + 2, *data = tfci + n_tfci;
     uint64_t refusal = MAPPED(slot_map)(format, slot, tpc, data, n_data, tfci, n_tfci, out, f->slot);
@@ -99,26 +102,26 @@ static uint64_t dpch(size_t n, size_t *at) {
 }
 
 static uint64_t record(size_t n, size_t *at) {
-    if (*at == n) return refuse(13, n);
+    if (*at == n) return refuse(ENDS_EARLY, n);
     switch (file[(*at)++]) {
     case KIND_AICH: return aich(n, at);
     case KIND_PICH: return pich(n, at);
     case KIND_DPCH: return dpch(n, at);
-    default: return refuse(13, *at - 1);
+    default: return refuse(UNKNOWN_KIND, *at - 1);
     }
 }
 
 static uint64_t header(size_t n) {
     static const uint8_t right[HEADER - 1] = {'S', 'L', 'T', 0, 1};
     for (size_t i = 0; i < sizeof right; i++) {
-        if (i == n) return refuse(13, n);
-        if (file[i] != right[i]) return refuse(13, i);
+        if (i == n) return refuse(ENDS_EARLY, n);
+        if (file[i] != right[i]) return refuse(i < MARK ? WRONG_MARK : UNKNOWN_VERSION, i);
     }
-    return n < HEADER ? refuse(13, n) : 0;
+    return n < HEADER ? refuse(ENDS_EARLY, n) : 0;
 }
 
 static uint64_t lines(size_t n) {
-    if (n > LONGEST) return refuse(13, LONGEST);
+    if (n > LONGEST) return refuse(OVER_LONG, LONGEST);
     uint64_t refusal = header(n);
     if (refusal) return refusal;
     put_text("SLT 1 ");
@@ -130,7 +133,7 @@ static uint64_t lines(size_t n) {
         if (refusal) return refusal;
         put_text("\n");
     }
-    return at < n ? refuse(13, at) : 0;
+    return at < n ? refuse(BYTES_AFTER, at) : 0;
 }
 
 int main(void) {

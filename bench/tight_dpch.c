@@ -7,7 +7,7 @@ uint64_t tight_slot_map(size_t format, size_t slot, size_t tpc, const uint8_t *d
                         size_t n_tfci, uint8_t *out, size_t n_out) {
     const struct format *f = &FORMATS[format < FORMAT_COUNT ? format : 0];
     if (format >= FORMAT_COUNT || slot >= SLOTS || n_data != data_of(f) || n_tfci != f->tfci || n_out != f->slot || tpc > 1 ||
-        any_above(tfci, n_tfci, 2) || is_mixed(tfci, n_tfci, format) || any_above(data, n_data, 2)) {
+        any_above(tfci, n_tfci, 2) || is_mixed(tfci, n_tfci) || any_above(data, n_data, 2)) {
         return plain_slot_map(format, slot, tpc, data, n_data, tfci, n_tfci, out, n_out);
     }
     write_slot(f, slot, tpc, data, tfci, out);
@@ -18,7 +18,7 @@ uint64_t tight_slot_read(size_t format, size_t slot, const uint8_t *run, size_t 
                          uint8_t *tfci, size_t n_tfci) {
     const struct format *f = &FORMATS[format < FORMAT_COUNT ? format : 0];
     if (format >= FORMAT_COUNT || slot >= SLOTS || n_run != f->slot || n_data != data_of(f) || n_tfci != f->tfci ||
-        any_above(run, n_run, 2) || is_misfit(f, format, slot, run)) {
+        any_above(run, n_run, 2) || is_misfit(f, slot, run)) {
         return plain_slot_read(format, slot, run, n_run, data, n_data, tfci, n_tfci);
     }
     take_fields(f, run, data, tfci);

@@ -4,23 +4,23 @@
 
 #include "dpch.h"
 
-/* Of digits that are not above 2: whether a TFCI field mixes DTX with others, or has DTX where none is allowed. */
-static inline bool is_mixed(const uint8_t *s, size_t n, size_t format) {
-    uint8_t kind = format >= DTX_TFCI_FROM ? s[0] : 0, other = 0;
+/* Of digits that are not above 2: whether a TFCI field mixes DTX with others. */
+static inline bool is_mixed(const uint8_t *s, size_t n) {
+    uint8_t other = 0;
     for (size_t i = 0; i < n; i++) {
-        other |= s[i] ^ kind;
+        other |= s[i] ^ s[0];
     }
     return other & 2;
 }
 
 /* Of digits that are not above 2: whether TPC, TFCI or pilot of a slot is none that some fields give. */
-static inline bool is_misfit(const struct format *f, size_t format, size_t slot, const uint8_t *run) {
+static inline bool is_misfit(const struct format *f, size_t slot, const uint8_t *run) {
     const uint8_t *tpc = run + f->data1, *tfci = tpc + f->tpc, *pilot = tfci + f->tfci + f->data2;
     uint8_t unlike = tpc[0] & 2;
     for (size_t i = 0; i < f->tpc; i++) {
         unlike |= tpc[i] ^ tpc[0];
     }
-    return unlike || is_mixed(tfci, f->tfci, format) || memcmp(pilot, pilot_of(f, slot), f->pilot) != 0;
+    return unlike || is_mixed(tfci, f->tfci) || memcmp(pilot, pilot_of(f, slot), f->pilot) != 0;
 }
 
 #endif

@@ -3,11 +3,10 @@
 
 #include "yardsticks.h"
 
-static bool any_mixed(const uint8_t *tfci, size_t n, size_t format) {
-    if (format < DTX_TFCI_FROM) return any_above(tfci, SLOTS * n, 1);
+static bool any_mixed(const uint8_t *tfci, size_t n) {
     bool mixed = false;
     for (size_t slot = 0; slot < SLOTS; slot++) {
-        mixed |= is_mixed(tfci + slot * n, n, format);
+        mixed |= is_mixed(tfci + slot * n, n);
     }
     return mixed;
 }
@@ -18,7 +17,7 @@ uint64_t tight_frame_map(size_t format, const uint8_t *data, size_t n_data, cons
     size_t n = data_of(f);
     if (format >= FORMAT_COUNT || n_data != SLOTS * n || n_tfci != (size_t)SLOTS * f->tfci ||
         n_out != (size_t)SLOTS * f->slot || n_commands != SLOTS || any_above(commands, SLOTS, 1) ||
-        any_above(tfci, n_tfci, 2) || any_mixed(tfci, f->tfci, format) || any_above(data, n_data, 2)) {
+        any_above(tfci, n_tfci, 2) || any_mixed(tfci, f->tfci) || any_above(data, n_data, 2)) {
         return plain_frame_map(format, data, n_data, tfci, n_tfci, out, n_out, commands, n_commands);
     }
     for (size_t slot = 0; slot < SLOTS; slot++) {
@@ -27,10 +26,10 @@ uint64_t tight_frame_map(size_t format, const uint8_t *data, size_t n_data, cons
     return 0;
 }
 
-static bool any_misfit(const struct format *f, size_t format, const uint8_t *frame) {
+static bool any_misfit(const struct format *f, const uint8_t *frame) {
     bool misfit = false;
     for (size_t slot = 0; slot < SLOTS; slot++) {
-        misfit |= is_misfit(f, format, slot, frame + slot * f->slot);
+        misfit |= is_misfit(f, slot, frame + slot * f->slot);
     }
     return misfit;
 }
@@ -41,7 +40,7 @@ uint64_t tight_frame_read(size_t format, const uint8_t *frame, size_t n_frame, u
     size_t n = data_of(f);
     if (format >= FORMAT_COUNT || n_frame != (size_t)SLOTS * f->slot || n_data != SLOTS * n ||
         n_tfci != (size_t)SLOTS * f->tfci || n_commands != SLOTS || any_above(frame, n_frame, 2) ||
-        any_misfit(f, format, frame)) {
+        any_misfit(f, frame)) {
         return plain_frame_read(format, frame, n_frame, data, n_data, tfci, n_tfci, commands, n_commands);
     }
     for (size_t slot = 0; slot < SLOTS; slot++) {

@@ -38,14 +38,21 @@ extern "C" {
 #define SLT_REFUSED_LENGTH 3u  /* a lent run has the wrong length; the place says which run */
 #define SLT_REFUSED_DIGIT 4u   /* digit not allowed */
 #define SLT_REFUSED_TPC 5u     /* TPC command not 0 or 1; reading: TPC digits DTX or unlike */
-#define SLT_REFUSED_TFCI 6u    /* TFCI rule broken */
+#define SLT_REFUSED_TFCI 6u    /* TFCI digits mixed, some bits and some DTX */
 #define SLT_REFUSED_PILOT 7u   /* pilot differs from the table */
 #define SLT_REFUSED_NP 8u      /* Np not 18, 36, 72, 144 */
 #define SLT_REFUSED_FRAME 9u   /* PICH or P-CCPCH frame that no fields give */
 #define SLT_REFUSED_VALUES 10u /* AICH values that no indicators give */
 #define SLT_REFUSED_RANGE 11u  /* a number outside its range */
 #define SLT_REFUSED_GAINS 12u  /* both gains zero */
-#define SLT_REFUSED_JOB 13u    /* bad job file */
+
+/* Of a job file, which the program slotline reads: no call gives them. The place is a byte offset. */
+#define SLT_REFUSED_OVER_LONG 20u   /* more than 65535 bytes */
+#define SLT_REFUSED_MARK 21u        /* wrong mark */
+#define SLT_REFUSED_VERSION 22u     /* version not known */
+#define SLT_REFUSED_KIND 23u        /* kind not known */
+#define SLT_REFUSED_ENDS_EARLY 24u  /* the file ends early, in its header or in a record */
+#define SLT_REFUSED_BYTES_AFTER 25u /* bytes after the last record */
 
 /* PICH (TS 25.211, 5.3.3.10). np is 18, 36, 72 or 144. */
 
@@ -58,7 +65,8 @@ uint64_t slt_pich_map(size_t np, const uint8_t *indicators, size_t n_indicators,
 /* The np indicators of a frame of 300 digits. */
 uint64_t slt_pich_read(size_t np, const uint8_t *frame, size_t n_frame, uint8_t *indicators, size_t n_indicators);
 
-/* DPCH slots (TS 25.211, 5.3.2), normal formats 0 to 16, slots 0 to 14. Field order: Data1, TPC, TFCI, Data2, pilot. */
+/* DPCH slots (TS 25.211, 5.3.2), normal formats 0 to 16, slots 0 to 14. Field order: Data1, TPC, TFCI, Data2, pilot.
+ * A slot's TFCI digits are all bits or all DTX (2), in every format that has some. */
 
 /* Command, data (Data1 before Data2 in one run) and TFCI into a slot. Order of runs for refusal 3: data, TFCI, output. */
 uint64_t slt_slot_map(size_t format, size_t slot, size_t tpc, const uint8_t *data, size_t n_data, const uint8_t *tfci,

@@ -14,9 +14,9 @@ pub fn lengths_of(number: usize) -> Format {
     dpch::format(number).expect("formats 0 to 16")
 }
 
-/// TFCI digits that keep the rule: bits, or now and then all DTX where that is allowed.
+/// TFCI digits that keep the rule: bits, or now and then all DTX.
 pub fn random_tfci(random: &mut Random, format: &Format) -> Vec<u8> {
-    if format.tfci_may_be_dtx && random.below(3) == 0 {
+    if random.below(3) == 0 {
         return vec![2; format.tfci];
     }
     random.digits(format.tfci, 2)
@@ -29,7 +29,7 @@ pub fn put_somewhere(run: &mut [u8], values: &[u8], random: &mut Random) {
     }
 }
 
-/// Turns a digit of the TFCI to the other kind, DTX or not; that always breaks the rule.
+/// Turns a digit of the TFCI to the other kind, DTX or not; that breaks the rule where the field was good.
 pub fn break_tfci(tfci: &mut [u8], random: &mut Random) {
     if !tfci.is_empty() {
         let index = random.below(tfci.len());

@@ -1,10 +1,8 @@
 -- docs/RULES.md, 'DPCH slot'; TS 25.211, 5.3.2, table 11 (normal formats): the bits of each field.
 -- Assumes nothing.
 use Prim.Native.Nat.{ℕ}
-use mathlib.Core.Bool.{Bool}
 use mathlib.Core.List.{List, [], _∷_}
 use lib.ListN.{getD}
-use lib.Dec.{leb}
 use Rattle.dpch.specs.declared.Format.{Format}
 
 -- a row of the table, in its order: Data1, Data2, TPC, TFCI, Pilot, Slot
@@ -40,7 +38,3 @@ formatOf n = getD formats n (row 0 0 0 0 0 0)
 -- the fields in the order in which they stand in the slot: Data1, TPC, TFCI, Data2, pilot
 abbrev pub widths : Format → List ℕ
 widths f = f .data1 ∷ f .tpc ∷ f .tfci ∷ f .data2 ∷ f .pilot ∷ []
-
--- the formats in which the TFCI digits may all be DTX: 12 to 16
-abbrev pub silenceAllowed : ℕ → Bool
-silenceAllowed format = leb 12 format

@@ -79,7 +79,7 @@ read-head-pass format frameLength dataLength tfciLength commandsLength r =
 -- fields that map takes
 pub record Mapped (format : ℕ) (d tfci : List ℕ) (outLength : ℕ) (commands : List ℕ) : Type 0 where
   pub room : Room format (length d) (length tfci) (length commands) outLength
-  pub slots : (k : ℕ) → k < 15 → FieldsOk format (getD commands k 0) (part k (dataSize (formatOf format)) d) (part k (formatOf format .tfci) tfci)
+  pub slots : (k : ℕ) → k < 15 → FieldsOk (getD commands k 0) (part k (dataSize (formatOf format)) d) (part k (formatOf format .tfci) tfci)
 
 pub mapped : (format : ℕ) (d tfci : List ℕ) (outLength : ℕ) (commands : List ℕ) → mapVerdict format d tfci outLength commands .number ≡ 0
     → Mapped format d tfci outLength commands
@@ -88,13 +88,13 @@ mapped format d tfci outLength commands h =
     let c = or-else-done _ _ h in
     record {
       room = map-headed format (length d) (length tfci) outLength (length commands) (c .first);
-      slots = λ k l. fields-ok format _ _ _ _ _ _ (chain-done 15 _ (c .rest) k l);
+      slots = λ k l. fields-ok _ _ _ _ _ _ (chain-done 15 _ (c .rest) k l);
     }
 
 -- a frame that read accepts
 pub record Accepted (format : ℕ) (xs : List ℕ) (dataLength tfciLength commandsLength : ℕ) : Type 0 where
   pub room : Room format dataLength tfciLength commandsLength (length xs)
-  pub slots : (k : ℕ) → k < 15 → DigitsOk format (formatOf format) k (part k (formatOf format .slot) xs)
+  pub slots : (k : ℕ) → k < 15 → DigitsOk (formatOf format) k (part k (formatOf format .slot) xs)
 
 pub accepted : (format : ℕ) (xs : List ℕ) (dataLength tfciLength commandsLength : ℕ) → readVerdict format xs dataLength tfciLength commandsLength .number ≡ 0
     → Accepted format xs dataLength tfciLength commandsLength
@@ -103,7 +103,7 @@ accepted format xs dataLength tfciLength commandsLength h =
     let c = or-else-done _ _ h in
     record {
       room = read-headed format (length xs) dataLength tfciLength commandsLength (c .first);
-      slots = λ k l. digits-ok format (formatOf format) k (part k (formatOf format .slot) xs) _ (chain-done 15 _ (c .rest) k l);
+      slots = λ k l. digits-ok (formatOf format) k (part k (formatOf format .slot) xs) _ (chain-done 15 _ (c .rest) k l);
     }
 
 -- its commands are bits

@@ -48,7 +48,7 @@ module _ (format : ℕ) (xs : List ℕ) (a : Accepted format xs (15 * dataSize (
   slot-fields : (k : ℕ) → k < 15 → slotFields format (dataIn (formatOf format) xs) (tfciIn (formatOf format) xs) (commandsIn (formatOf format) xs) k ≡ done
   slot-fields k h =
       rw (command-of format xs long k h, data-of format xs long k h, tfci-of format xs long k h)
-      (slot-accept.fields-pass format _ _ _ _ _ _
+      (slot-accept.fields-pass _ _ _ _ _ _
       (slot-accept.mapped format k _ _ _ _
       (number-0 (slot-exact.read-maps format k (part k (formatOf format .slot) xs) (a .slots k h) (a .room .format-ok) (omega arith) (slot-long k h))) .fields))
 
@@ -80,12 +80,12 @@ module _ (format : ℕ) (d tfci commands : List ℕ) (m : Mapped format d tfci (
       (number-0
       (or-else-pass
       (slot-accept.map-head-pass format k _ _ _ (m .room .format-ok) (omega arith) (part-length k 15 (dataSize (formatOf format)) d h (f-ok .data-ok)) (part-length k 15 (formatOf format .tfci) tfci h (f-ok .tfci-ok)) refl)
-      (slot-accept.fields-pass format _ _ _ 0 0 0 (m .slots k h))))
+      (slot-accept.fields-pass _ _ _ 0 0 0 (m .slots k h))))
 
   slot-digits : (k : ℕ) → k < 15 → slotDigits format (frameOf (formatOf format) d tfci commands) k ≡ done
   slot-digits k h =
       rw (at-slot k h)
-      (slot-accept.digits-pass format (formatOf format) k _ _ (slot-exact.mapped-digits-ok format k _ _ _ (slot-mapped k h)))
+      (slot-accept.digits-pass (formatOf format) k _ _ (slot-exact.mapped-digits-ok format k _ _ _ (slot-mapped k h)))
 
   mapped-accepted : readVerdict format (frameOf (formatOf format) d tfci commands) (15 * dataSize (formatOf format)) (15 * formatOf format .tfci) 15 ≡ done
   unfolding readVerdict
@@ -186,7 +186,7 @@ map-narrow format d tfci outLength commands =
     let b = part-room k 15 (formatOf format .tfci) h in
     let small = data-small format in
     let few = tfci-small format in
-    slot-exact.fields-narrow format _ _ _ k _ _ (omega arith) (omega arith) (omega arith)))
+    slot-exact.fields-narrow _ _ _ k _ _ (omega arith) (omega arith) (omega arith)))
 
 read-narrow : (format : ℕ) (xs : List ℕ) (dataLength tfciLength commandsLength : ℕ) → Narrow (readVerdict format xs dataLength tfciLength commandsLength)
 unfolding readVerdict readHead

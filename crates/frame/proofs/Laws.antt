@@ -29,7 +29,7 @@ use Rattle.frame.specs.Ready.{Room}
 
 -- the k-th command, data and TFCI as they are lent: the checks of slot k
 pub fields-at : (format : ℕ) (d tfci commands : List ℕ) (k n m : ℕ) (r : Verdict) → n ≡ dataSize (formatOf format) → m ≡ formatOf format .tfci
-    → r ≡ fieldsVerdict format (getD commands k 0) (take (k * n + n - k * n) (drop (k * n) d)) (take (k * m + m - k * m) (drop (k * m) tfci)) k (k * m) (k * n)
+    → r ≡ fieldsVerdict (getD commands k 0) (take (k * n + n - k * n) (drop (k * n) d)) (take (k * m + m - k * m) (drop (k * m) tfci)) k (k * m) (k * n)
     → r ≡ slotFields format d tfci commands k
 fields-at format d tfci commands k n m r p q e =
     e

@@ -32,7 +32,7 @@ mapHead format dataLength tfciLength outLength commandsLength =
 -- .. then slot by slot, as for a slot: 5 at the slot, the other places in the whole runs
 abbrev pub slotFields : ℕ → List ℕ → List ℕ → List ℕ → ℕ → Verdict
 slotFields format d tfci commands k =
-    fieldsVerdict format (getD commands k 0) (part k (dataSize (formatOf format)) d) (part k (formatOf format .tfci) tfci)
+    fieldsVerdict (getD commands k 0) (part k (dataSize (formatOf format)) d) (part k (formatOf format .tfci) tfci)
     k (k * formatOf format .tfci) (k * dataSize (formatOf format))
 
 unfoldable pub mapVerdict : ℕ → List ℕ → List ℕ → ℕ → List ℕ → Verdict
@@ -55,7 +55,7 @@ readHead format frameLength dataLength tfciLength commandsLength =
 
 -- .. then slot by slot, as for a slot; places index the frame
 abbrev pub slotDigits : ℕ → List ℕ → ℕ → Verdict
-slotDigits format xs k = digitsVerdict format (formatOf format) k (part k (formatOf format .slot) xs) (k * formatOf format .slot)
+slotDigits format xs k = digitsVerdict (formatOf format) k (part k (formatOf format .slot) xs) (k * formatOf format .slot)
 
 unfoldable pub readVerdict : ℕ → List ℕ → ℕ → ℕ → ℕ → Verdict
 readVerdict format xs dataLength tfciLength commandsLength =

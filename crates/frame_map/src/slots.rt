@@ -25,7 +25,6 @@ pub(crate) fn check_fields(format: usize, data: &[u8], tfci: &[u8], commands: &[
         let c = b + m;
         let tpc = commands[k] as usize;
         let verdict = slot_map::fields_verdict(
-            format,
             tpc,
             &data[a..e],
             &tfci[b..c],

@@ -3,7 +3,7 @@
 use Prim.Native.Nat.{ℕ}
 use mathlib.Core.Bool.{Bool, cond}
 use Rattle.run.specs.declared.Verdict.{Verdict}
-use Rattle.run.specs.Refusals.{jobRefused}
+use Rattle.run.specs.Refusals.{overLongRefused, markRefused, versionRefused, kindRefused, endsEarlyRefused, bytesAfterRefused}
 use Rattle.run.specs.Verdicts.{refused, done}
 use Rattle.job.specs.declared.fault.Fault.{Fault}
 use Rattle.job.specs.declared.fault.Fault.the-variants.{OverLong, WrongMark, UnknownVersion, UnknownKind, EndsEarly, BytesAfter}
@@ -12,14 +12,14 @@ use Rattle.job.specs.declared.fault.Fault.the-variants.{OverLong, WrongM
 abbrev pub limit : ℕ
 limit = 65535
 
--- every case is 13; the place is a byte offset
+-- each case has a number of its own; the place is a byte offset
 unfoldable pub verdictOf : Fault → Verdict
-verdictOf OverLong = refused jobRefused limit
-verdictOf (WrongMark offset) = refused jobRefused offset
-verdictOf (UnknownVersion offset) = refused jobRefused offset
-verdictOf (UnknownKind offset) = refused jobRefused offset
-verdictOf (EndsEarly offset) = refused jobRefused offset
-verdictOf (BytesAfter offset) = refused jobRefused offset
+verdictOf OverLong = refused overLongRefused limit
+verdictOf (WrongMark offset) = refused markRefused offset
+verdictOf (UnknownVersion offset) = refused versionRefused offset
+verdictOf (UnknownKind offset) = refused kindRefused offset
+verdictOf (EndsEarly offset) = refused endsEarlyRefused offset
+verdictOf (BytesAfter offset) = refused bytesAfterRefused offset
 
 -- refused for the fault where the test fails
 unfoldable pub check : Bool → Fault → Verdict

@@ -21,13 +21,10 @@ pub(crate) enum Fault {
     BytesAfter(usize),
 }
 
-fn bad_file(place: usize) -> Verdict
-    ensures { λ r. ⌜ r ≡ record { number = 13; place = place } ⌝ }
+fn bad_file(number: usize, place: usize) -> Verdict
+    ensures { λ r. ⌜ r ≡ record { number = number; place = place } ⌝ }
 {
-    Verdict {
-        number: refusal::JOB,
-        place,
-    }
+    Verdict { number, place }
 }
 
 // The number and the place that a fault is refused with.
@@ -35,12 +32,12 @@ pub(crate) fn verdict_of(fault: Fault) -> Verdict
     ensures { λ r. ⌜ r ≡ verdictOf fault ⌝ }
 {
     match fault {
-        Fault::OverLong => bad_file(65535),
-        Fault::WrongMark(at) => bad_file(at),
-        Fault::UnknownVersion(at) => bad_file(at),
-        Fault::UnknownKind(at) => bad_file(at),
-        Fault::EndsEarly(at) => bad_file(at),
-        Fault::BytesAfter(at) => bad_file(at),
+        Fault::OverLong => bad_file(refusal::OVER_LONG, 65535),
+        Fault::WrongMark(at) => bad_file(refusal::MARK, at),
+        Fault::UnknownVersion(at) => bad_file(refusal::VERSION, at),
+        Fault::UnknownKind(at) => bad_file(refusal::KIND, at),
+        Fault::EndsEarly(at) => bad_file(refusal::ENDS_EARLY, at),
+        Fault::BytesAfter(at) => bad_file(refusal::BYTES_AFTER, at),
     }
 }
 

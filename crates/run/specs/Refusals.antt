@@ -22,7 +22,7 @@ digitRefused = 4
 abbrev pub tpcRefused : ℕ
 tpcRefused = 5
 
--- 6: TFCI rule broken
+-- 6: TFCI digits mixed, some bits and some DTX
 abbrev pub tfciRefused : ℕ
 tfciRefused = 6
 
@@ -50,6 +50,26 @@ rangeRefused = 11
 abbrev pub gainsRefused : ℕ
 gainsRefused = 12
 
--- 13: bad job file
-abbrev pub jobRefused : ℕ
-jobRefused = 13
+-- 20: over-long job file
+abbrev pub overLongRefused : ℕ
+overLongRefused = 20
+
+-- 21: wrong mark of a job file
+abbrev pub markRefused : ℕ
+markRefused = 21
+
+-- 22: version of a job file not known
+abbrev pub versionRefused : ℕ
+versionRefused = 22
+
+-- 23: kind of a record not known
+abbrev pub kindRefused : ℕ
+kindRefused = 23
+
+-- 24: job file ends early, in its header or in a record
+abbrev pub endsEarlyRefused : ℕ
+endsEarlyRefused = 24
+
+-- 25: bytes after the last record of a job file
+abbrev pub bytesAfterRefused : ℕ
+bytesAfterRefused = 25

@@ -10,7 +10,7 @@ pub const LENGTH: usize = 3;
 pub const DIGIT: usize = 4;
 // 5: TPC command not 0 or 1; in reading, TPC digits DTX or unlike.
 pub const TPC: usize = 5;
-// 6: TFCI rule broken.
+// 6: TFCI digits mixed, some bits and some DTX.
 pub const TFCI: usize = 6;
 // 7: pilot differs from the table.
 pub const PILOT: usize = 7;
@@ -24,5 +24,15 @@ pub const VALUES: usize = 10;
 pub const RANGE: usize = 11;
 // 12: both gains zero.
 pub const GAINS: usize = 12;
-// 13: bad job file.
-pub const JOB: usize = 13;
+// 20: over-long job file.
+pub const OVER_LONG: usize = 20;
+// 21: wrong mark of a job file.
+pub const MARK: usize = 21;
+// 22: version of a job file not known.
+pub const VERSION: usize = 22;
+// 23: kind of a record not known.
+pub const KIND: usize = 23;
+// 24: job file ends early, in its header or in a record.
+pub const ENDS_EARLY: usize = 24;
+// 25: bytes after the last record of a job file.
+pub const BYTES_AFTER: usize = 25;

@@ -12,7 +12,7 @@ use Rattle.run.specs.First.{Every, atMost, likeFirst, agree}
 use Rattle.run.specs.Verdicts.{done}
 use Rattle.run.proofs.Chain.{four-done, or-else-done, unless-done, each-done, or-else-pass, unless-pass, each-pass, AllRight, lengths-done, lengths-pass}
 use Rattle.dpch.specs.declared.Format.{Format}
-use Rattle.dpch.specs.Formats.{formatOf, silenceAllowed}
+use Rattle.dpch.specs.Formats.{formatOf}
 use Rattle.dpch.specs.Pilots.{pilotOf}
 use Rattle.slot.specs.Rule.{dataSize, tpcIn, tfciIn, pilotIn, tfciStands}
 use Rattle.slot.specs.Outcome.{head, mapHead, fieldsVerdict, mapVerdict, readHead, digitsVerdict, readVerdict}
@@ -84,16 +84,16 @@ unfolding readHead
 read-head-pass format slot slotLength dataLength tfciLength a b p q r = head-pass format slot _ a b (eq-eqb _ _ p, (eq-eqb _ _ q, (eq-eqb _ _ r, tt)))
 
 -- command, TFCI and data
-pub record FieldsOk (format tpc : ℕ) (d tfci : List ℕ) : Type 0 where
+pub record FieldsOk (tpc : ℕ) (d tfci : List ℕ) : Type 0 where
   pub tpc-ok : tpc ≤ 1
   pub tfci-digits : Every (atMost 2 tfci) (length tfci)
-  pub tfci-kinds : Every (tfciStands (silenceAllowed format) tfci) (length tfci)
+  pub tfci-kinds : Every (tfciStands tfci) (length tfci)
   pub data-digits : Every (atMost 2 d) (length d)
 
-pub fields-ok : (format tpc : ℕ) (d tfci : List ℕ) (tpcPlace tfciBase dataBase : ℕ) → fieldsVerdict format tpc d tfci tpcPlace tfciBase dataBase .number ≡ 0
-    → FieldsOk format tpc d tfci
+pub fields-ok : (tpc : ℕ) (d tfci : List ℕ) (tpcPlace tfciBase dataBase : ℕ) → fieldsVerdict tpc d tfci tpcPlace tfciBase dataBase .number ≡ 0
+    → FieldsOk tpc d tfci
 unfolding fieldsVerdict
-fields-ok format tpc d tfci tpcPlace tfciBase dataBase h =
+fields-ok tpc d tfci tpcPlace tfciBase dataBase h =
     let c = four-done _ _ _ _ h in
     record {
       tpc-ok = leb-true _ _ (unless-done _ 5 tpcPlace (omega arith) (c .first));
@@ -102,25 +102,25 @@ fields-ok format tpc d tfci tpcPlace tfciBase dataBase h =
       data-digits = each-done dataBase 4 _ _ (omega arith) (c .fourth);
     }
 
-pub fields-pass : (format tpc : ℕ) (d tfci : List ℕ) (tpcPlace tfciBase dataBase : ℕ) → FieldsOk format tpc d tfci
-    → fieldsVerdict format tpc d tfci tpcPlace tfciBase dataBase ≡ done
+pub fields-pass : (tpc : ℕ) (d tfci : List ℕ) (tpcPlace tfciBase dataBase : ℕ) → FieldsOk tpc d tfci
+    → fieldsVerdict tpc d tfci tpcPlace tfciBase dataBase ≡ done
 unfolding fieldsVerdict
-fields-pass format tpc d tfci tpcPlace tfciBase dataBase k =
+fields-pass tpc d tfci tpcPlace tfciBase dataBase k =
     or-else-pass (unless-pass 5 tpcPlace (le-leb _ _ (k .tpc-ok)))
     (or-else-pass (each-pass tfciBase 4 _ _ (k .tfci-digits))
     (or-else-pass (each-pass tfciBase 6 _ _ (k .tfci-kinds))
     (each-pass dataBase 4 _ _ (k .data-digits))))
 
 -- the digits of a slot
-pub record DigitsOk (format : ℕ) (f : Format) (slot : ℕ) (xs : List ℕ) : Type 0 where
+pub record DigitsOk (f : Format) (slot : ℕ) (xs : List ℕ) : Type 0 where
   pub digits : Every (atMost 2 xs) (length xs)
   pub alike : Every (likeFirst (tpcIn f xs)) (length (tpcIn f xs))
-  pub kinds : Every (tfciStands (silenceAllowed format) (tfciIn f xs)) (length (tfciIn f xs))
+  pub kinds : Every (tfciStands (tfciIn f xs)) (length (tfciIn f xs))
   pub pilot : Every (agree (pilotIn f xs) (pilotOf (f .pilot) slot)) (length (pilotIn f xs))
 
-pub digits-ok : (format : ℕ) (f : Format) (slot : ℕ) (xs : List ℕ) (base : ℕ) → digitsVerdict format f slot xs base .number ≡ 0 → DigitsOk format f slot xs
+pub digits-ok : (f : Format) (slot : ℕ) (xs : List ℕ) (base : ℕ) → digitsVerdict f slot xs base .number ≡ 0 → DigitsOk f slot xs
 unfolding digitsVerdict
-digits-ok format f slot xs base h =
+digits-ok f slot xs base h =
     let c = four-done _ _ _ _ h in
     record {
       digits = each-done base 4 _ _ (omega arith) (c .first);
@@ -129,9 +129,9 @@ digits-ok format f slot xs base h =
       pilot = each-done _ 7 _ _ (omega arith) (c .fourth);
     }
 
-pub digits-pass : (format : ℕ) (f : Format) (slot : ℕ) (xs : List ℕ) (base : ℕ) → DigitsOk format f slot xs → digitsVerdict format f slot xs base ≡ done
+pub digits-pass : (f : Format) (slot : ℕ) (xs : List ℕ) (base : ℕ) → DigitsOk f slot xs → digitsVerdict f slot xs base ≡ done
 unfolding digitsVerdict
-digits-pass format f slot xs base k =
+digits-pass f slot xs base k =
     or-else-pass (each-pass base 4 _ _ (k .digits))
     (or-else-pass (each-pass _ 5 _ _ (k .alike))
     (or-else-pass (each-pass _ 6 _ _ (k .kinds))
@@ -141,7 +141,7 @@ digits-pass format f slot xs base k =
 pub record Mapped (format slot tpc : ℕ) (d tfci : List ℕ) (outLength : ℕ) : Type 0 where
   pub head-done : mapHead format slot (length d) (length tfci) outLength .number ≡ 0
   pub head : Headed format slot (length d) (length tfci) outLength
-  pub fields : FieldsOk format tpc d tfci
+  pub fields : FieldsOk tpc d tfci
 
 pub mapped : (format slot tpc : ℕ) (d tfci : List ℕ) (outLength : ℕ) → mapVerdict format slot tpc d tfci outLength .number ≡ 0
     → Mapped format slot tpc d tfci outLength
@@ -151,14 +151,14 @@ mapped format slot tpc d tfci outLength h =
     record {
       head-done = c .first;
       head = map-headed format slot (length d) (length tfci) outLength (c .first);
-      fields = fields-ok format tpc d tfci 0 0 0 (c .rest);
+      fields = fields-ok tpc d tfci 0 0 0 (c .rest);
     }
 
 -- a slot that read accepts
 pub record Accepted (format slot : ℕ) (xs : List ℕ) (dataLength tfciLength : ℕ) : Type 0 where
   pub head-done : readHead format slot (length xs) dataLength tfciLength .number ≡ 0
   pub head : Headed format slot dataLength tfciLength (length xs)
-  pub digits : DigitsOk format (formatOf format) slot xs
+  pub digits : DigitsOk (formatOf format) slot xs
 
 pub accepted : (format slot : ℕ) (xs : List ℕ) (dataLength tfciLength : ℕ) → readVerdict format slot xs dataLength tfciLength .number ≡ 0
     → Accepted format slot xs dataLength tfciLength
@@ -168,5 +168,5 @@ accepted format slot xs dataLength tfciLength h =
     record {
       head-done = c .first;
       head = read-headed format slot (length xs) dataLength tfciLength (c .first);
-      digits = digits-ok format (formatOf format) slot xs 0 (c .rest);
+      digits = digits-ok (formatOf format) slot xs 0 (c .rest);
     }

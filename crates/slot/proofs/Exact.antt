@@ -33,7 +33,7 @@ abbrev digit : ℕ → Bool
 digit x = leb x 2
 
 -- ---- what reading accepts, its fields give
-module _ (format slot : ℕ) (xs : List ℕ) (k : DigitsOk format (formatOf format) slot xs) (format-ok : format ≤ 16) (slot-ok : slot ≤ 14) (long : length xs ≡ formatOf format .slot) where
+module _ (format slot : ℕ) (xs : List ℕ) (k : DigitsOk (formatOf format) slot xs) (format-ok : format ≤ 16) (slot-ok : slot ≤ 14) (long : length xs ≡ formatOf format .slot) where
   whole : Whole (formatOf format) (length xs)
   whole = record { sound = sound-format format; slot-ok = long }
 
@@ -84,7 +84,7 @@ module _ (format slot : ℕ) (xs : List ℕ) (k : DigitsOk format (formatOf form
       let f = formatOf format in
       or-else-pass
       (map-head-pass format slot _ _ (f .slot) format-ok slot-ok (data-length f xs whole) (field-long f xs whole 2 (lit< tt)) refl)
-      (fields-pass format _ _ _ 0 0 0
+      (fields-pass _ _ _ 0 0 0
       (record {
         tpc-ok = command-bit;
         tfci-digits = field-digits 2 (lit< tt);
@@ -145,7 +145,7 @@ module _ (format slot tpc : ℕ) (d tfci : List ℕ) (m : Mapped format slot tpc
       let some : 0 < formatOf format .tpc = omega arith in
       rw (getD-replicate (formatOf format .tpc) k tpc 0 l, getD-replicate (formatOf format .tpc) 0 tpc 0 some, ne-eqb tpc dtx (λ e. omega arith), eq-eqb tpc tpc refl)
 
-  pub mapped-digits-ok : DigitsOk format (formatOf format) slot (slotOf (formatOf format) slot tpc d tfci)
+  pub mapped-digits-ok : DigitsOk (formatOf format) slot (slotOf (formatOf format) slot tpc d tfci)
   mapped-digits-ok =
       record { digits = mapped-digits; alike = rw tpc-back all-alike; kinds = rw tfci-back (m .fields .tfci-kinds); pilot = diff-none _ _ _ pilot-back }
 
@@ -155,7 +155,7 @@ module _ (format slot tpc : ℕ) (d tfci : List ℕ) (m : Mapped format slot tpc
       let f = formatOf format in
       or-else-pass
       (read-head-pass format slot _ (dataSize f) (f .tfci) (m .head .format-ok) (m .head .slot-ok) mapped-length refl refl)
-      (digits-pass format f slot (slotOf f slot tpc d tfci) 0 mapped-digits-ok)
+      (digits-pass f slot (slotOf f slot tpc d tfci) 0 mapped-digits-ok)
 
 given : {format slot tpc : ℕ} {d tfci xs : List ℕ} → Gives format slot tpc d tfci xs → Mapped format slot tpc d tfci (formatOf format .slot)
 given {format} {slot} {tpc} {d} {tfci} g = mapped format slot tpc d tfci (formatOf format .slot) (number-0 (g .taken))
@@ -250,16 +250,16 @@ field-small format k h =
     omega arith
 
 -- the checks of fields of small lengths, and of the digits of a slot, at small bases
-pub fields-narrow : (format tpc : ℕ) (d tfci : List ℕ) (tpcPlace tfciBase dataBase : ℕ)
-    → tpcPlace < 4294967296 → tfciBase + length tfci < 4294967296 → dataBase + length d < 4294967296 → Narrow (fieldsVerdict format tpc d tfci tpcPlace tfciBase dataBase)
+pub fields-narrow : (tpc : ℕ) (d tfci : List ℕ) (tpcPlace tfciBase dataBase : ℕ)
+    → tpcPlace < 4294967296 → tfciBase + length tfci < 4294967296 → dataBase + length d < 4294967296 → Narrow (fieldsVerdict tpc d tfci tpcPlace tfciBase dataBase)
 unfolding fieldsVerdict
-fields-narrow format tpc d tfci tpcPlace tfciBase dataBase h k l =
+fields-narrow tpc d tfci tpcPlace tfciBase dataBase h k l =
     check-narrow _ 5 tpcPlace _ (lit< tt) (lit< tt) h
     (λ _. or-else-narrow _ _ (each-narrow tfciBase 4 _ _ (lit< tt) k)
     (λ _. or-else-narrow _ _ (each-narrow tfciBase 6 _ _ (lit< tt) k)
     (λ _. each-narrow dataBase 4 _ _ (lit< tt) l)))
 
-pub digits-narrow : (format slot : ℕ) (xs : List ℕ) (base : ℕ) → length xs ≡ formatOf format .slot → base ≤ 65536 → Narrow (digitsVerdict format (formatOf format) slot xs base)
+pub digits-narrow : (format slot : ℕ) (xs : List ℕ) (base : ℕ) → length xs ≡ formatOf format .slot → base ≤ 65536 → Narrow (digitsVerdict (formatOf format) slot xs base)
 unfolding digitsVerdict
 digits-narrow format slot xs base long h =
     let w = record-whole in
@@ -294,7 +294,7 @@ map-narrow format slot tpc d tfci outLength =
     let t = field-small format 2 (lit< tt) in
     let p = r .data-ok in
     let q = r .tfci-ok in
-    fields-narrow format tpc d tfci 0 0 0 (lit< tt) (omega arith) (omega arith))
+    fields-narrow tpc d tfci 0 0 0 (lit< tt) (omega arith) (omega arith))
 
 read-narrow : (format slot : ℕ) (xs : List ℕ) (dataLength tfciLength : ℕ) → Narrow (readVerdict format slot xs dataLength tfciLength)
 unfolding readVerdict readHead

@@ -1,10 +1,10 @@
 -- The fields of a slot: where they begin, how long they are, and a slot written or cut field by field.
 -- Assumes nothing.
 use mathlib.Core.Path.{_≡_, refl, sym, ap, _∙_}
-use mathlib.Core.Bool.{Bool, true, false, not, _&&_, _||_, Bool·beq}
+use mathlib.Core.Bool.{Bool, true, false, not, Bool·beq}
 use mathlib.Core.List.{List, [], map}
 use Prim.Native.Nat.{ℕ, _+_, _-_, _≤_, _<_}
-use native.Mathlib.Nat.{not-suc-le-zero, add-zero}
+use native.Mathlib.Nat.{add-zero}
 use native.Mathlib.Omega.{arith}
 use borrow.Rule.Slice.PartMut.{putMid, midOf}
 use lib.ListN.{length, getD, take, drop, replicate, length-append, length-drop, length-replicate}
@@ -15,7 +15,7 @@ use Rattle.run.specs.Digits.{dtx}
 use Rattle.run.specs.First.{firstBad, isAt, notAt}
 use Rattle.run.specs.Fields.{total, field, start}
 use Rattle.run.specs.Written.{over}
-use Rattle.run.proofs.First.{first-is, first-same}
+use Rattle.run.proofs.First.{first-same}
 use Rattle.run.proofs.Chain.{or-else-next, unless-pass, number-0}
 use Rattle.run.proofs.Fields.{joined-length, field-is, field-lent, field-joined, field-length, field-at}
 use Rattle.run.proofs.Over.{over-whole}
@@ -249,33 +249,26 @@ tfci-small format =
     let short = s .short in
     omega arith
 
--- the TFCI rule where the first digit is a bit, where it is DTX and may be, and where it may not
+-- the TFCI rule where the first digit is a bit, and where it is DTX
 module _ (tfci : List ℕ) where
-  bits-alike : (allowed d : Bool) → not d ≡ ((allowed || not d) && Bool·beq d false)
-  bits-alike true true = refl
-  bits-alike true false = refl
-  bits-alike false true = refl
-  bits-alike false false = refl
+  unlike : (d : Bool) → not d ≡ Bool·beq d false
+  unlike true = refl
+  unlike false = refl
 
-  pub tfci-bits : (allowed : Bool) (n : ℕ) → (getD tfci 0 0 ≡ dtx → ⊥) → firstBad (notAt dtx tfci) n ≡ firstBad (tfciStands allowed tfci) n
+  pub tfci-bits : (n : ℕ) → (getD tfci 0 0 ≡ dtx → ⊥) → firstBad (notAt dtx tfci) n ≡ firstBad (tfciStands tfci) n
   unfolding tfciStands
-  tfci-bits allowed n h = first-same _ _ n (λ k _. rw (ne-eqb (getD tfci 0 0) dtx h) (bits-alike allowed (eqb (getD tfci k 0) dtx)))
+  tfci-bits n h = first-same _ _ n (λ k _. rw (ne-eqb (getD tfci 0 0) dtx h) (unlike (eqb (getD tfci k 0) dtx)))
 
-  silent : (d : Bool) → d ≡ Bool·beq d true
-  silent true = refl
-  silent false = refl
+  alike : (d : Bool) → d ≡ Bool·beq d true
+  alike true = refl
+  alike false = refl
 
-  pub tfci-silent : (allowed : Bool) (n : ℕ) → getD tfci 0 0 ≡ dtx → allowed ≡ true → firstBad (isAt dtx tfci) n ≡ firstBad (tfciStands allowed tfci) n
+  pub tfci-silent : (n : ℕ) → getD tfci 0 0 ≡ dtx → firstBad (isAt dtx tfci) n ≡ firstBad (tfciStands tfci) n
   unfolding tfciStands
-  tfci-silent allowed n h a = first-same _ _ n (λ k _. rw (a, eq-eqb (getD tfci 0 0) dtx h) (silent (eqb (getD tfci k 0) dtx)))
-
-  pub tfci-never : (allowed : Bool) → getD tfci 0 0 ≡ dtx → allowed ≡ false → 0 ≡ firstBad (tfciStands allowed tfci) (length tfci)
-  unfolding tfciStands
-  tfci-never allowed h a =
-      sym (first-is _ (length tfci) 0 (omega arith) (λ k l. absurd (not-suc-le-zero l)) (λ _. rw (a, eq-eqb (getD tfci 0 0) dtx h)))
+  tfci-silent n h = first-same _ _ n (λ k _. rw (eq-eqb (getD tfci 0 0) dtx h) (alike (eqb (getD tfci k 0) dtx)))
 
 -- a run that is a slot is checked digit by digit
 pub part-whole : (format slot : ℕ) (xs : List ℕ) (base : ℕ) → length xs ≡ formatOf format .slot
-    → partVerdict format slot xs base ≡ digitsVerdict format (formatOf format) slot xs base
+    → partVerdict format slot xs base ≡ digitsVerdict (formatOf format) slot xs base
 unfolding partVerdict
 part-whole format slot xs base e = or-else-next _ _ (number-0 (unless-pass 3 0 (eq-eqb _ _ e)))

@@ -12,7 +12,7 @@ use Rattle.run.specs.Fields.{start}
 use Rattle.run.specs.Refusals.{formatRefused, slotRefused, lengthRefused, digitRefused, tpcRefused, tfciRefused, pilotRefused}
 use Rattle.run.specs.Verdicts.{orElse, unless, each, lengths, leaves}
 use Rattle.dpch.specs.declared.Format.{Format}
-use Rattle.dpch.specs.Formats.{formatOf, widths, silenceAllowed}
+use Rattle.dpch.specs.Formats.{formatOf, widths}
 use Rattle.dpch.specs.Pilots.{pilotOf}
 use Rattle.slot.specs.declared.Command.{Command}
 use Rattle.slot.specs.Rule.{dataSize, slotOf, tpcIn, tfciIn, pilotIn, dataIn, commandIn, tfciStands}
@@ -34,16 +34,16 @@ mapHead format slot dataLength tfciLength outLength =
     ∷ [])
 
 -- .. 5, then TFCI: 4 above 2, 6; then data 4 above 2. The places of command, TFCI and data count from where they stand in their runs
-unfoldable pub fieldsVerdict : ℕ → ℕ → List ℕ → List ℕ → ℕ → ℕ → ℕ → Verdict
-fieldsVerdict format tpc d tfci tpcPlace tfciBase dataBase =
+unfoldable pub fieldsVerdict : ℕ → List ℕ → List ℕ → ℕ → ℕ → ℕ → Verdict
+fieldsVerdict tpc d tfci tpcPlace tfciBase dataBase =
     orElse (unless (leb tpc 1) tpcRefused tpcPlace)
     (orElse (each tfciBase digitRefused (atMost 2 tfci) (length tfci))
-    (orElse (each tfciBase tfciRefused (tfciStands (silenceAllowed format) tfci) (length tfci))
+    (orElse (each tfciBase tfciRefused (tfciStands tfci) (length tfci))
     (each dataBase digitRefused (atMost 2 d) (length d))))
 
 unfoldable pub mapVerdict : ℕ → ℕ → ℕ → List ℕ → List ℕ → ℕ → Verdict
 mapVerdict format slot tpc d tfci outLength =
-    orElse (mapHead format slot (length d) (length tfci) outLength) (fieldsVerdict format tpc d tfci 0 0 0)
+    orElse (mapHead format slot (length d) (length tfci) outLength) (fieldsVerdict tpc d tfci 0 0 0)
 
 pub record Map (format slot tpc : ℕ) (d tfci out : List ℕ) (answer : Verdict) (out-after : List ℕ) : Type 0 where
   pub verdict-is : answer ≡ mapVerdict format slot tpc d tfci (length out)
@@ -64,16 +64,16 @@ readHead format slot slotLength dataLength tfciLength =
     ∷ [])
 
 -- .. 4 above 2, 5 (first TPC digit that is DTX or unlike the first), 6, 7; the slot's places count from base
-unfoldable pub digitsVerdict : ℕ → Format → ℕ → List ℕ → ℕ → Verdict
-digitsVerdict format f slot xs base =
+unfoldable pub digitsVerdict : Format → ℕ → List ℕ → ℕ → Verdict
+digitsVerdict f slot xs base =
     orElse (each base digitRefused (atMost 2 xs) (length xs))
     (orElse (each (base + start 1 (widths f)) tpcRefused (likeFirst (tpcIn f xs)) (length (tpcIn f xs)))
-    (orElse (each (base + start 2 (widths f)) tfciRefused (tfciStands (silenceAllowed format) (tfciIn f xs)) (length (tfciIn f xs)))
+    (orElse (each (base + start 2 (widths f)) tfciRefused (tfciStands (tfciIn f xs)) (length (tfciIn f xs)))
     (each (base + start 4 (widths f)) pilotRefused (agree (pilotIn f xs) (pilotOf (f .pilot) slot)) (length (pilotIn f xs)))))
 
 unfoldable pub readVerdict : ℕ → ℕ → List ℕ → ℕ → ℕ → Verdict
 readVerdict format slot xs dataLength tfciLength =
-    orElse (readHead format slot (length xs) dataLength tfciLength) (digitsVerdict format (formatOf format) slot xs 0)
+    orElse (readHead format slot (length xs) dataLength tfciLength) (digitsVerdict (formatOf format) slot xs 0)
 
 pub record Read (format slot : ℕ) (xs d tfci : List ℕ) (answer : Command) (d-after tfci-after : List ℕ) : Type 0 where
   pub verdict-is : answer .verdict ≡ readVerdict format slot xs (length d) (length tfci)
@@ -84,7 +84,7 @@ pub record Read (format slot : ℕ) (xs d tfci : List ℕ) (answer : Command) (d
 -- the part that checks a slot's digits, with places counted from base: a run that is no slot of the format is refused as such
 unfoldable pub partVerdict : ℕ → ℕ → List ℕ → ℕ → Verdict
 partVerdict format slot xs base =
-    orElse (unless (eqb (length xs) (formatOf format .slot)) lengthRefused 0) (digitsVerdict format (formatOf format) slot xs base)
+    orElse (unless (eqb (length xs) (formatOf format .slot)) lengthRefused 0) (digitsVerdict (formatOf format) slot xs base)
 
 -- the part that takes the fields out of a slot with no look at their digits
 pub record Take (format slot : ℕ) (xs d tfci : List ℕ) (answer : Command) (d-after tfci-after : List ℕ) : Type 0 where

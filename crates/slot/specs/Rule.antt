@@ -1,7 +1,7 @@
 -- docs/RULES.md, 'DPCH slot'; TS 25.211, 5.3.2: one slot of the downlink DPCH.
 -- Assumes nothing.
 use Prim.Native.Nat.{ℕ, _+_}
-use mathlib.Core.Bool.{Bool, not, _&&_, _||_, Bool·beq}
+use mathlib.Core.Bool.{Bool, Bool·beq}
 use mathlib.Core.List.{List, [], _∷_, _++_}
 use lib.ListN.{getD, take, drop, replicate}
 use lib.Dec.{eqb}
@@ -41,7 +41,6 @@ dataIn f xs = field 0 (widths f) xs ++ field 3 (widths f) xs
 abbrev pub commandIn : Format → List ℕ → ℕ
 commandIn f xs = getD (tpcIn f xs) 0 0
 
--- the TFCI rule at digit k: it is no DTX where none is allowed, and of the kind (DTX or not) of the first TFCI digit
-unfoldable pub tfciStands : Bool → List ℕ → ℕ → Bool
-tfciStands allowed tfci k =
-    (allowed || not (eqb (getD tfci k 0) dtx)) && Bool·beq (eqb (getD tfci k 0) dtx) (eqb (getD tfci 0 0) dtx)
+-- the digits of a TFCI field are all bits or all DTX; at digit k: it is of the kind (DTX or not) of the first TFCI digit
+unfoldable pub tfciStands : List ℕ → ℕ → Bool
+tfciStands tfci k = Bool·beq (eqb (getD tfci k 0) dtx) (eqb (getD tfci 0 0) dtx)

@@ -45,9 +45,9 @@ fn placed(s: &[u8], i: usize, number: usize, base: u32, start: usize) -> Verdict
 }
 
 // The checks of a slot's digits, field by field.
-pub(crate) fn check(format: usize, f: Format, slot: usize, xs: &[u8], base: u32) -> Verdict
+pub(crate) fn check(f: Format, slot: usize, xs: &[u8], base: u32) -> Verdict
     requires { ⌜ Whole f (length (now xs)) ⌝ }
-    ensures { λ r. ⌜ r ≡ digitsVerdict format f slot (now (xs .entry)) base ⌝ }
+    ensures { λ r. ⌜ r ≡ digitsVerdict f slot (now (xs .entry)) base ⌝ }
 {
     let a = f.data1;
     let b = a + f.tpc;
@@ -58,13 +58,7 @@ pub(crate) fn check(format: usize, f: Format, slot: usize, xs: &[u8], base: u32)
     let last = placed(pilot, pilot_differs(pilot, slot), refusal::PILOT, base, d);
     let tfci = &xs[b..c];
     let kinds = or_else(
-        placed(
-            tfci,
-            first_mixed(tfci, 12 <= format),
-            refusal::TFCI,
-            base,
-            b,
-        ),
+        placed(tfci, first_mixed(tfci), refusal::TFCI, base, b),
         last,
     );
     let tpc = &xs[a..b];

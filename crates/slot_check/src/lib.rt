@@ -17,5 +17,5 @@ pub fn part_verdict(format: usize, slot: usize, xs: &[u8], base: u32) -> Verdict
             place: 0,
         };
     }
-    fields::check(format, f, slot, xs, base)
+    fields::check(f, slot, xs, base)
 }

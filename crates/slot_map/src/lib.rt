@@ -12,9 +12,9 @@ ghost use Rattle.run.specs.First.{firstBad};
 ghost use Rattle.slot.specs.Rule.{tfciStands};
 ghost use Rattle.slot.specs.Outcome.{fieldsVerdict, mapVerdict, Map};
 
-// The first TFCI digit that breaks the rule.
-pub fn first_mixed(s: &[u8], allowed: bool) -> usize
-    ensures { λ r. ⌜ r ≡ firstBad (tfciStands allowed (now (s .entry))) (length (now (s .entry))) ⌝ }
+// The first TFCI digit whose kind, DTX or not, is not the first one's.
+pub fn first_mixed(s: &[u8]) -> usize
+    ensures { λ r. ⌜ r ≡ firstBad (tfciStands (now (s .entry))) (length (now (s .entry))) ⌝ }
 {
     if s.len() == 0 {
         return 0;
@@ -23,16 +23,11 @@ pub fn first_mixed(s: &[u8], allowed: bool) -> usize
     if first != DTX {
         return scan::first_equal(s, DTX);
     }
-    if allowed {
-        scan::first_other(s, DTX)
-    } else {
-        0
-    }
+    scan::first_other(s, DTX)
 }
 
 // The checks of command, TFCI and data; each counts its places from where it stands in its run.
 pub fn fields_verdict(
-    format: usize,
     tpc: usize,
     data: &[u8],
     tfci: &[u8],
@@ -40,16 +35,11 @@ pub fn fields_verdict(
     tfci_base: u32,
     data_base: u32,
 ) -> Verdict
-    ensures { λ r. ⌜ r ≡ fieldsVerdict format tpc (now («data» .entry)) (now (tfci .entry)) «tpc_place» «tfci_base» «data_base» ⌝ }
+    ensures { λ r. ⌜ r ≡ fieldsVerdict tpc (now («data» .entry)) (now (tfci .entry)) «tpc_place» «tfci_base» «data_base» ⌝ }
 {
     let last = found(data, scan::first_above(data, 2), refusal::DIGIT, data_base);
     let kinds = or_else(
-        found(
-            tfci,
-            first_mixed(tfci, 12 <= format),
-            refusal::TFCI,
-            tfci_base,
-        ),
+        found(tfci, first_mixed(tfci), refusal::TFCI, tfci_base),
         last,
     );
     let digits = or_else(
@@ -73,7 +63,7 @@ fn map_verdict(
     if head.number != 0 {
         return head;
     }
-    fields_verdict(format, tpc, data, tfci, 0, 0, 0)
+    fields_verdict(tpc, data, tfci, 0, 0, 0)
 }
 
 // The slot of the fields, or the refusal and `out` as it was.

@@ -13,7 +13,7 @@ use lib.Seq.{take-all, getD-take, length-take-le}
 use mir.Syntax.{w32}
 use mir.Val.{toZ, ofZ}
 use mir.ValLaws.{toZ-ofZ}
-use Rattle.run.specs.First.{Every}
+use Rattle.run.specs.First.{Every, atMost}
 use Rattle.run.specs.Written.{over}
 use Rattle.run.proofs.Chain.{or-else-done, unless-done, each-done}
 use Rattle.run.proofs.Front.{Front, front-length, front-store, front-end}
@@ -133,6 +133,7 @@ module _ (input : List ℤ) (long : length input ≡ 32) (ok : Every (valuesIn i
 pub record DigitsTaken (input : List ℕ) (outLength : ℕ) : Type 0 where
   pub input-ok : length input % 4 ≡ 0
   pub out-ok : outLength ≡ length input
+  pub digits-ok : Every (atMost 2 input) (length input)
 
 pub digits-taken : (input : List ℕ) (outLength : ℕ) → digitsVerdict input outLength .number ≡ 0 → DigitsTaken input outLength
 unfolding digitsVerdict
@@ -142,6 +143,7 @@ digits-taken input outLength h =
     record {
       input-ok = eqb-true _ _ (unless-done _ 3 0 (omega arith) (c1 .first));
       out-ok = eqb-true _ _ (unless-done _ 3 1 (omega arith) (c2 .first));
+      digits-ok = each-done 0 4 _ _ (omega arith) (c2 .rest);
     }
 
 pub record ValuesTaken (input : List ℤ) (outLength : ℕ) : Type 0 where

@@ -42,8 +42,6 @@ pub struct Format {
     pub tfci: usize,
     pub pilot: usize,
     pub slot: usize,
-    /// Formats 12 to 16: the TFCI digits may also be all DTX.
-    pub tfci_may_be_dtx: bool,
 }
 
 impl Format {
@@ -85,7 +83,7 @@ pub fn format(number: usize) -> Result<Format, Refusal> {
         return refuse(1, 0);
     }
     let [data1, data2, tpc, tfci, pilot, slot] = FORMATS[number];
-    Ok(Format { data1, data2, tpc, tfci, pilot, slot, tfci_may_be_dtx: number >= 12 })
+    Ok(Format { data1, data2, tpc, tfci, pilot, slot })
 }
 
 /// Symbol `number` of a slot's pattern: 0, 2, 4, 6 are 11, the others stand in the list.
@@ -123,14 +121,13 @@ pub fn check_digits(run: &[u8], from: usize) -> Result<(), Refusal> {
     }
 }
 
-/// 6 at the first DTX where none is allowed or the first digit whose kind (DTX or not) differs from the first
-/// TFCI digit's.
-pub fn check_tfci(format: &Format, tfci: &[u8], from: usize) -> Result<(), Refusal> {
+/// 6: a TFCI field is all bits or all DTX, in every format that has one. A mixed field is told at the first digit whose
+/// kind (DTX or not) differs from the first TFCI digit's.
+pub fn check_tfci(tfci: &[u8], from: usize) -> Result<(), Refusal> {
     for index in 0..tfci.len() {
         let is_dtx = tfci[index] == DTX;
-        let forbidden = is_dtx && !format.tfci_may_be_dtx;
         let first_is_dtx = tfci[0] == DTX;
-        if forbidden || is_dtx != first_is_dtx {
+        if is_dtx != first_is_dtx {
             return refuse(6, from + index);
         }
     }
@@ -166,7 +163,7 @@ pub fn map(number: usize, slot: usize, tpc: usize, data: &[u8], tfci: &[u8], n_o
         return refuse(5, 0);
     }
     check_digits(tfci, 0)?;
-    check_tfci(&format, tfci, 0)?;
+    check_tfci(tfci, 0)?;
     check_digits(data, 0)?;
     Ok(mapped(&format, slot, tpc as u8, data, tfci))
 }
@@ -198,7 +195,7 @@ pub fn read_slot(format: &Format, slot: usize, run: &[u8], from: usize) -> Resul
             return refuse(5, from + format.tpc_at() + index);
         }
     }
-    check_tfci(format, tfci, from + format.tfci_at())?;
+    check_tfci(tfci, from + format.tfci_at())?;
     let table = pilot(format.pilot, slot);
     for index in 0..table.len() {
         if run[format.pilot_at() + index] != table[index] {
@@ -212,7 +209,7 @@ pub fn read_slot(format: &Format, slot: usize, run: &[u8], from: usize) -> Resul
 
 #[cfg(test)]
 mod tests {
-    use super::{format, map};
+    use super::{Fields, format, map, read};
     use crate::answer::refuse;
 
     #[test]
@@ -229,6 +226,24 @@ mod tests {
     fn marked_examples_p3_and_p4() {
         assert_eq!(map(17, 0, 0, &[], &[], 0), refuse(1, 0));
         assert_eq!(map(0, 15, 0, &[1, 0, 1, 0], &[], 10), refuse(2, 0));
+    }
+
+    #[test]
+    fn silence_is_taken_in_every_format_with_tfci_and_a_mix_in_none() {
+        for number in 0..=16 {
+            let format = format(number).unwrap();
+            let (data, silent) = (vec![0; format.data()], vec![2; format.tfci]);
+            let run = map(number, 3, 1, &data, &silent, format.slot).unwrap();
+            let back = read(number, 3, &run, format.data(), format.tfci).unwrap();
+            assert_eq!(back, Fields { tpc: 1, data: data.clone(), tfci: silent.clone() }, "format {number}");
+            for index in 0..format.tfci {
+                let (mut bit_in_silence, mut dtx_in_bits) = (silent.clone(), vec![1; format.tfci]);
+                (bit_in_silence[index], dtx_in_bits[index]) = (0, 2);
+                for tfci in [bit_in_silence, dtx_in_bits] {
+                    assert_eq!(map(number, 3, 1, &data, &tfci, format.slot), refuse(6, index.max(1)), "format {number}");
+                }
+            }
+        }
     }
 
     #[test]

@@ -45,7 +45,7 @@ fn map_slot(format: &dpch::Format, slot: usize, data: &[u8], tfci: &[u8], tpc: u
         return refuse(5, slot);
     }
     dpch::check_digits(tfci, tfci_from)?;
-    dpch::check_tfci(format, tfci, tfci_from)?;
+    dpch::check_tfci(tfci, tfci_from)?;
     dpch::check_digits(data, data_from)?;
     Ok(dpch::mapped(format, slot, tpc, data, tfci))
 }

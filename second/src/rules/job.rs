@@ -9,6 +9,9 @@ pub const LONGEST: usize = 65535;
 /// `SLT`, then the version as 16 bits, high byte first: 1.
 pub const MARK_AND_VERSION: [u8; 5] = *b"SLT\x00\x01";
 
+/// How many of these bytes are the mark.
+const MARK: usize = 3;
+
 /// Everything that is printed for a file: the lines of what it holds, and a line for the refusal that ends the run.
 pub fn printed(file: &[u8]) -> String {
     let mut text = String::new();
@@ -18,11 +21,11 @@ pub fn printed(file: &[u8]) -> String {
     text
 }
 
-/// Order: over-long file 13 at 65535; header bytes in turn; the records; a byte after the last record 13 there. No
+/// Order: over-long file 20 at 65535; header bytes in turn; the records; a byte after the last record 25 there. No
 /// line is printed before the header is known to be good.
 fn print(file: &[u8], text: &mut String) -> Result<(), Refusal> {
     if file.len() > LONGEST {
-        return refuse(13, LONGEST);
+        return refuse(20, LONGEST);
     }
     let mut reader = Reader { file, at: 0 };
     let count = header(&mut reader)?;
@@ -32,7 +35,7 @@ fn print(file: &[u8], text: &mut String) -> Result<(), Refusal> {
         *text += "\n";
     }
     if reader.at < file.len() {
-        return refuse(13, reader.at);
+        return refuse(25, reader.at);
     }
     Ok(())
 }
@@ -44,11 +47,11 @@ struct Reader<'a> {
 }
 
 impl<'a> Reader<'a> {
-    /// The next bytes, all of them there. A missing byte is 13 at the file's length, wherever reading began.
+    /// The next bytes, all of them there. A missing byte is 24 at the file's length, wherever reading began.
     fn run(&mut self, length: usize) -> Result<&'a [u8], Refusal> {
         let end = self.at + length;
         if end > self.file.len() {
-            return refuse(13, self.file.len());
+            return refuse(24, self.file.len());
         }
         let run = &self.file[self.at..end];
         self.at = end;
@@ -60,28 +63,29 @@ impl<'a> Reader<'a> {
     }
 }
 
-/// Mark and version, each byte in turn: 13 where it is wrong. Answers the count, which may be any byte.
+/// Mark and version, each byte in turn: 21 where the mark is wrong, 22 where the version is. Answers the count, which
+/// may be any byte.
 fn header(reader: &mut Reader) -> Result<u8, Refusal> {
     for (offset, right) in MARK_AND_VERSION.into_iter().enumerate() {
         if reader.byte()? != right {
-            return refuse(13, offset);
+            return refuse(if offset < MARK { 21 } else { 22 }, offset);
         }
     }
     reader.byte()
 }
 
-/// The line of the next record. An unknown kind is 13 where it stands.
+/// The line of the next record. An unknown kind is 23 where it stands.
 fn record(reader: &mut Reader) -> Result<String, Refusal> {
     let begin = reader.at;
     match reader.byte()? {
         1 => aich_line(reader),
         2 => pich_line(reader),
         3 => dpch_line(reader),
-        _ => refuse(13, begin),
+        _ => refuse(23, begin),
     }
 }
 
-/// 16 bytes: short 13, then the mapper's 11.
+/// 16 bytes: short 24, then the mapper's 11.
 fn aich_line(reader: &mut Reader) -> Result<String, Refusal> {
     let bytes = reader.run(aich::SIGNATURES)?;
     let indicators: Vec<i32> = bytes.iter().map(|byte| indicator(*byte)).collect();
@@ -98,7 +102,7 @@ fn indicator(byte: u8) -> i32 {
     }
 }
 
-/// Np and its indicators: Np 8 comes before short 13, since the length is not known without it.
+/// Np and its indicators: Np 8 comes before short 24, since the length is not known without it.
 fn pich_line(reader: &mut Reader) -> Result<String, Refusal> {
     let np = usize::from(reader.byte()?);
     pich::check_np(np)?;
@@ -107,7 +111,7 @@ fn pich_line(reader: &mut Reader) -> Result<String, Refusal> {
     Ok(format!("PICH {np} {}", digits(&frame)))
 }
 
-/// Format, slot, TPC, TFCI, data: format 1 comes before short 13, and short 13 before every other check of the mapper.
+/// Format, slot, TPC, TFCI, data: format 1 comes before short 24, and short 24 before every other check of the mapper.
 fn dpch_line(reader: &mut Reader) -> Result<String, Refusal> {
     let number = usize::from(reader.byte()?);
     let format = dpch::format(number)?;
@@ -164,33 +168,34 @@ mod tests {
 
     #[test]
     fn header_and_length_print_one_line() {
-        assert_eq!(printed(b""), "refused 13 0\n");
-        assert_eq!(printed(b"SLT\x00\x01"), "refused 13 5\n");
-        assert_eq!(printed(b"SLX"), "refused 13 2\n");
-        assert_eq!(printed(b"SLT\x01\x01\x00"), "refused 13 3\n");
-        assert_eq!(printed(b"SLT\x00\x02\x00"), "refused 13 4\n");
-        assert_eq!(printed(&vec![0; LONGEST]), "refused 13 0\n");
-        assert_eq!(printed(&vec![0; LONGEST + 1]), "refused 13 65535\n");
+        assert_eq!(printed(b""), "refused 24 0\n");
+        assert_eq!(printed(b"SLT\x00\x01"), "refused 24 5\n");
+        assert_eq!(printed(b"SL"), "refused 24 2\n");
+        assert_eq!(printed(b"SLX"), "refused 21 2\n");
+        assert_eq!(printed(b"SLT\x01\x01\x00"), "refused 22 3\n");
+        assert_eq!(printed(b"SLT\x00\x02\x00"), "refused 22 4\n");
+        assert_eq!(printed(&vec![0; LONGEST]), "refused 21 0\n");
+        assert_eq!(printed(&vec![0; LONGEST + 1]), "refused 20 65535\n");
     }
 
     #[test]
     fn records_are_refused_after_the_lines_before_them() {
         assert_eq!(printed(&file(0, &[])), "SLT 1 0\n");
-        assert_eq!(printed(&file(0, &[9])), "SLT 1 0\nrefused 13 6\n");
-        assert_eq!(printed(&file(255, &[])), "SLT 1 255\nrefused 13 6\n");
+        assert_eq!(printed(&file(0, &[9])), "SLT 1 0\nrefused 25 6\n");
+        assert_eq!(printed(&file(255, &[])), "SLT 1 255\nrefused 24 6\n");
         let good = [3, 0, 0, 0, 1, 0, 1, 0];
         let line = "DPCH 0 0 0010101111";
-        assert_eq!(printed(&file(1, &[&good[..], &[0]].concat())), format!("SLT 1 1\n{line}\nrefused 13 14\n"));
-        assert_eq!(printed(&file(2, &[&good[..], &[4]].concat())), format!("SLT 1 2\n{line}\nrefused 13 14\n"));
-        assert_eq!(printed(&file(2, &[&good[..], &[3]].concat())), format!("SLT 1 2\n{line}\nrefused 13 15\n"));
+        assert_eq!(printed(&file(1, &[&good[..], &[0]].concat())), format!("SLT 1 1\n{line}\nrefused 25 14\n"));
+        assert_eq!(printed(&file(2, &[&good[..], &[4]].concat())), format!("SLT 1 2\n{line}\nrefused 23 14\n"));
+        assert_eq!(printed(&file(2, &[&good[..], &[3]].concat())), format!("SLT 1 2\n{line}\nrefused 24 15\n"));
         assert_eq!(printed(&file(2, &[&good[..], &[3, 17]].concat())), format!("SLT 1 2\n{line}\nrefused 1 0\n"));
     }
 
     #[test]
     fn short_comes_after_np_and_format_and_before_the_mapper() {
         assert_eq!(printed(&file(1, &[2, 19])), "SLT 1 1\nrefused 8 0\n");
-        assert_eq!(printed(&file(1, &[2, 18, 9])), "SLT 1 1\nrefused 13 9\n");
-        assert_eq!(printed(&file(1, &[3, 1, 15, 2, 3, 3, 3])), "SLT 1 1\nrefused 13 13\n");
+        assert_eq!(printed(&file(1, &[2, 18, 9])), "SLT 1 1\nrefused 24 9\n");
+        assert_eq!(printed(&file(1, &[3, 1, 15, 2, 3, 3, 3])), "SLT 1 1\nrefused 24 13\n");
         assert_eq!(printed(&file(1, &[3, 1, 15, 2, 3, 3, 3, 3])), "SLT 1 1\nrefused 2 0\n");
         assert_eq!(printed(&file(1, &[3, 1, 14, 2, 3, 3, 3, 3])), "SLT 1 1\nrefused 5 0\n");
         assert_eq!(printed(&file(1, &[3, 1, 14, 1, 2, 3, 3, 3])), "SLT 1 1\nrefused 4 1\n");

@@ -6,13 +6,13 @@ use denote.Ref.{now}
 use lib.ListN.{length}
 use Rattle.run.proofs.First.{first-le}
 use Rattle.slot.specs.Rule.{tfciStands}
-use Rattle.slot.proofs.Laws.{tfci-bits, tfci-silent, tfci-never}
+use Rattle.slot.proofs.Laws.{tfci-bits, tfci-silent}
 use borrow.Author.Needs.{needs}
 use Rattle.slot_map.proofs.first_mixed.Statement.{statement}
 use Rattle.slot_map.proofs.first_mixed.Tie as tie
 
 returns : tie.Need-returns
-returns c = omega (arith, first-le (tfciStands (c .before .before .args .allowed) (now (c .before .before .args .s))) (length (now (c .before .before .args .s))))
+returns c = omega (arith, first-le (tfciStands (now (c .before .before .args .s))) (length (now (c .before .before .args .s))))
 
 shared-slice-read-first : tie.Need-shared-slice-read-first
 shared-slice-read-first c = search needs
@@ -21,25 +21,15 @@ first-equal-requires : tie.Need-first-equal-requires
 first-equal-requires c κs = search needs
 
 returns-2 : tie.Need-returns-2
-returns-2 c = c .first-equal .ensures ∙ tfci-bits (now (c .before .before .before .before .before .args .s)) (c .before .before .before .before .before .args .allowed) _ (c .before .if2 .taken)
+returns-2 c = c .first-equal .ensures ∙ tfci-bits (now (c .before .before .before .before .before .args .s)) _ (c .before .if2 .taken)
 
 first-other-requires : tie.Need-first-other-requires
 first-other-requires c κs = search needs
 
 returns-3 : tie.Need-returns-3
-returns-3 c = c .first-other .ensures ∙ tfci-silent (now (c .before .before .before .before .before .before .args .s)) (c .before .before .before .before .before .before .args .allowed) _ (c .before .before .if2 .left) (c .before .if3 .taken)
-
-returns-4 : tie.Need-returns-4
-returns-4 c = tfci-never (now (c .before .before .before .before .before .args .s)) (c .before .before .before .before .before .args .allowed) (c .before .if2 .left) (c .if3 .left)
+returns-3 c = c .first-other .ensures ∙ tfci-silent (now (c .before .before .before .before .before .args .s)) _ (c .before .if2 .left)
 
 pub first-mixed-spec : {M : Type 1} → statement M
 first-mixed-spec =
     tie.close
-    (tie.spec
-    returns
-    shared-slice-read-first
-    first-equal-requires
-    returns-2
-    first-other-requires
-    returns-3
-    returns-4)
+    (tie.spec returns shared-slice-read-first first-equal-requires returns-2 first-other-requires returns-3)

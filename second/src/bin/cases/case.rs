@@ -54,7 +54,9 @@ impl Line {
 
     /// What is printed comes on lines of its own.
     pub fn printed(self, text: &str) -> Case {
-        assert!(self.name != "refusal 13" || text.contains("refused 13 "), "{} prints {text}", self.question);
+        if let Some(number) = self.name.strip_prefix("refusal ") {
+            assert!(text.contains(&format!("refused {number} ")), "{} prints {text}", self.question);
+        }
         Case { question: self.question, answer: format!("\n{text}") }
     }
 }

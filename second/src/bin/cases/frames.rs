@@ -41,6 +41,7 @@ pub fn all() -> Vec<Case> {
     let ten = [0, 0, 0, 0, 0, 0, 0, 0, 0, 0, 2, 0, 0, 2, 0];
     vec![
         map_1("done", 1, &DATA, &TFCI, &COMMANDS),
+        map_1("done", 1, &DATA, &[0, 1, 2, 2], &COMMANDS),
         map_1("refusal 1", 17, &[3], &[3], &[2]),
         map_1("refusal 3", 0, &[3], &[3], &[2]),
         map_1("refusal 3", 1, &[3], &[3], &[2]),

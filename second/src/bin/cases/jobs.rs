@@ -1,5 +1,5 @@
-//! Job files of one record: the example of docs/RULES.md, 'Job file and program', and refusal 13. What a job prints comes on lines of its
-//! own.
+//! Job files of one record: the example of docs/RULES.md, 'Job file and program', and the refusals 21 to 25. What a job prints comes on
+//! lines of its own. An over-long file, 20, is no line that can be asked: the comparison of job files has it.
 
 use crate::case::{Case, Line};
 use second::rules::job;
@@ -26,11 +26,24 @@ fn changed(places: &[(usize, u8)]) -> Vec<u8> {
 pub fn all() -> Vec<Case> {
     vec![
         printed("other", &EXAMPLE),
-        // the low byte of the version first
-        printed("refusal 13", &changed(&[(3, 1), (4, 0)])),
+        // the mark in small letters, and the last letter of it alone with a wrong version
+        printed("refusal 21", &changed(&[(0, b's'), (1, b'l'), (2, b't')])),
+        printed("refusal 21", &changed(&[(2, b'X'), (4, 2)])),
+        // the low byte of the version first, and another version
+        printed("refusal 22", &changed(&[(3, 1), (4, 0)])),
+        printed("refusal 22", &changed(&[(4, 2)])),
+        // kinds are 1, 2 and 3; a bad kind comes before a bad format
+        printed("refusal 23", &changed(&[(6, 0)])),
+        printed("refusal 23", &changed(&[(6, 4), (7, b'Z')])),
         // a byte is missing, and so is TFCI's rule broken
-        printed("refusal 13", &changed(&[(11, 2)])[..13]),
+        printed("refusal 24", &changed(&[(11, 2)])[..13]),
+        // nothing but the header; no count; half a mark
+        printed("refusal 24", &EXAMPLE[..6]),
+        printed("refusal 24", &EXAMPLE[..5]),
+        printed("refusal 24", &EXAMPLE[..2]),
         // a byte stands behind the record
-        printed("refusal 13", &[EXAMPLE.as_slice(), &[0]].concat()),
+        printed("refusal 25", &[EXAMPLE.as_slice(), &[0]].concat()),
+        // the record is not the last: a second one that is not counted
+        printed("refusal 25", &[EXAMPLE.as_slice(), &EXAMPLE[6..]].concat()),
     ]
 }

@@ -31,7 +31,7 @@ fn map_1(name: &str, numbers: [usize; 3], tfci: &[u8], data: &[u8]) -> Case {
     map(name, numbers, tfci, data, 10)
 }
 
-/// A slot of format 12, the first format whose TFCI may be silent.
+/// A slot of format 12, with eight TFCI digits.
 fn map_12(name: &str, tpc: usize, tfci: &[u8]) -> Case {
     map(name, [12, 7, tpc], tfci, &repeated(&[1, 0, 0, 2], 60), 80)
 }
@@ -70,8 +70,17 @@ fn map_digits() -> Vec<Case> {
     ]
 }
 
+/// A slot of format 9, with two.
+fn map_9(name: &str, tfci: &[u8]) -> Case {
+    map(name, [9, 4, 1], tfci, &repeated(&[0, 1, 2], 32), 40)
+}
+
 fn map_silence() -> Vec<Case> {
     vec![
+        map_1("done", [1, 14, 1], &[2, 2], &[2, 1]),
+        map_9("done", &[2, 2]),
+        map_9("refusal 6", &[2, 1]),
+        map_9("refusal 6", &[1, 2]),
         map_12("done", 1, &[2; 8]),
         map_12("done", 0, &[1, 0, 0, 1, 1, 0, 1, 0]),
         map_12("refusal 6", 0, &[2, 2, 2, 2, 2, 1, 2, 0]),
@@ -105,6 +114,7 @@ fn read_fields() -> Vec<Case> {
 
 fn read_pilots() -> Vec<Case> {
     vec![
+        read_1("done", 1, &[1, 1, 2, 2, 1, 0, 1, 1, 0, 0]),
         read_1("refusal 6", 1, &[1, 1, 0, 2, 1, 0, 0, 1, 0, 0]),
         read_1("refusal 7", 1, &[1, 1, 0, 1, 1, 0, 1, 1, 0, 1]),
         read_1("refusal 7", 2, &[1, 1, 0, 1, 1, 0, 1, 1, 0, 0]),

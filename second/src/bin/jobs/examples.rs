@@ -33,10 +33,10 @@ fn paging() -> Vec<u8> {
     record
 }
 
-/// A slot of each format, each slot number once or twice; data with DTX, and in formats 13 and 15 a silent TFCI.
+/// A slot of each format, each slot number once or twice; data with DTX, and in formats 9, 13 and 15 a silent TFCI.
 fn one_of_format(format: u8) -> Vec<u8> {
     let lengths = lengths_of(format.into());
-    let silent = format == 13 || format == 15;
+    let silent = matches!(format, 9 | 13 | 15);
     let tfci: Vec<u8> = (0..lengths.tfci).map(|index| if silent { 2 } else { (index % 2) as u8 }).collect();
     let data: Vec<u8> = (0..lengths.data()).map(|index| (index * 7 % 3) as u8).collect();
     dpch_of(format, format % 15, format % 2, &tfci, &data)

@@ -21,7 +21,8 @@ macro_rules! faults {
 
 faults! {
     OverLong,
-    HeaderByte,
+    WrongMark,
+    WrongVersion,
     MissingByte,
     UnknownKind,
     BadFormat,
@@ -48,7 +49,7 @@ enum Home {
 impl Fault {
     fn home(self) -> Home {
         match self {
-            OverLong | HeaderByte | ByteAfter => Home::File,
+            OverLong | WrongMark | WrongVersion | ByteAfter => Home::File,
             MissingByte | UnknownKind | Short => Home::AnyRecord,
             AichByte => Home::Record(AICH),
             BadNp | PichDigit => Home::Record(PICH),
@@ -62,7 +63,7 @@ impl Fault {
     }
 }
 
-/// A format with TFCI that may be silent: every fault of a DPCH record can be made in it.
+/// A format with TFCI: every fault of a DPCH record can be made in it.
 const FORMAT: u8 = 12;
 
 fn good_dpch(random: &mut Random) -> Vec<u8> {
@@ -101,7 +102,8 @@ impl Draft {
         let record = &mut self.records[index];
         match fault {
             OverLong => self.padded = true,
-            HeaderByte => self.header[4] = 2,
+            WrongMark => self.header[2] = b't',
+            WrongVersion => self.header[4] = 2,
             ByteAfter => self.after = vec![AICH],
             // The kind is still there.
             MissingByte => self.cut = Some((index, 1)),
@@ -210,13 +212,17 @@ mod tests {
 
     #[test]
     fn the_earlier_check_is_told() {
-        assert_eq!(told("OverLong and HeaderByte"), "refused 13 65535");
+        assert_eq!(told("OverLong and WrongMark"), "refused 20 65535");
+        assert_eq!(told("WrongMark and WrongVersion"), "refused 21 2");
+        assert_eq!(told("WrongVersion and UnknownKind"), "refused 22 4");
+        assert_eq!(told("WrongVersion and ByteAfter"), "refused 22 4");
         assert_eq!(told("TfciDigit and TfciRule"), "refused 4 5");
         assert_eq!(told("BadFormat and Short"), "refused 1 0");
         assert_eq!(told("BadSlot and DataDigit"), "refused 2 0");
         // The file's length: header, a good record of 72 bytes, and all but one of the next.
-        assert_eq!(told("Short and BadSlot"), format!("refused 13 {}", 6 + 72 + 71));
-        assert_eq!(told("MissingByte and UnknownKind"), format!("refused 13 {}", 6 + 72));
+        assert_eq!(told("Short and BadSlot"), format!("refused 24 {}", 6 + 72 + 71));
+        assert_eq!(told("MissingByte and UnknownKind"), format!("refused 23 {}", 6 + 72));
+        assert_eq!(told("UnknownKind and ByteAfter"), format!("refused 23 {}", 6 + 72));
     }
 
     #[test]

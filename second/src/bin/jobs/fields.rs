@@ -48,6 +48,7 @@ fn damaged_dpch(random: &mut Random, format: u8) -> Vec<(String, Vec<u8>)> {
             put(&silent, at, 0);
             put(&silent, at, 255);
         }
+        // A silent field is no damage: the record is printed, and the one behind it, too.
         damaged.push((format!("format {format}, silent TFCI"), silent));
     }
     damaged

@@ -121,6 +121,6 @@ mod tests {
     fn the_longest_file_is_good_and_the_next_is_not() {
         let text = printed(&file(&exactly(LONGEST)));
         assert!(text.starts_with("SLT 1 ") && !text.contains("refused"));
-        assert_eq!(printed(&file(&exactly(LONGEST + 1))), "refused 13 65535\n");
+        assert_eq!(printed(&file(&exactly(LONGEST + 1))), "refused 20 65535\n");
     }
 }

@@ -34,7 +34,7 @@ use std::process::ExitCode;
 type List = (&'static str, fn() -> Vec<Job>);
 
 const LISTS: &[List] = &[
-    ("every format in every slot, both commands, TFCI silent where it may be", valid::formats),
+    ("every format in every slot, both commands, TFCI spoken and silent", valid::formats),
     ("data that is all 0, all 1, all DTX, and each in turn", valid::extreme_data),
     ("every Np, with none, one, some and all indicators", valid::paging),
     ("AICH indicators: one of each sign, all, and some", valid::acquisition),
@@ -63,7 +63,7 @@ const LISTS: &[List] = &[
 ];
 
 /// Every number that a job can be refused with, and 0 for done.
-const NUMBERS: [u16; 9] = [0, 1, 2, 4, 5, 6, 8, 11, 13];
+const NUMBERS: [u16; 14] = [0, 1, 2, 4, 5, 6, 8, 11, 20, 21, 22, 23, 24, 25];
 
 const USAGE: &str = "usage: jobs SLOTLINE EXAMPLES | --write-examples EXAMPLES | --fuzz SEED SLOTLINE | --print";
 

@@ -160,7 +160,7 @@ mod tests {
     #[test]
     fn the_number_of_a_text_is_that_of_its_last_line() {
         assert_eq!(number("SLT 1 0\n"), 0);
-        assert_eq!(number("refused 13 0\n"), 13);
+        assert_eq!(number("refused 24 0\n"), 24);
         assert_eq!(number("SLT 1 1\nrefused 4 1000\n"), 4);
     }
 }

@@ -4,7 +4,7 @@ use crate::good::{AICH, Job, NPS, PICH, aich, dpch, dpch_of, file, pich, some};
 use second::fields::lengths_of;
 use second::random::Random;
 
-/// A file for each format and slot: a record for each command, and one with silent TFCI where that is allowed.
+/// A file for each format and slot: a record for each command, and where the format has TFCI one that is silent.
 pub fn formats() -> Vec<Job> {
     let mut random = Random::new(100);
     let mut jobs = Vec::new();
@@ -12,7 +12,7 @@ pub fn formats() -> Vec<Job> {
         let lengths = lengths_of(format.into());
         for slot in 0..15 {
             let mut records = vec![dpch(&mut random, format, slot, 0), dpch(&mut random, format, slot, 1)];
-            if lengths.tfci_may_be_dtx {
+            if lengths.tfci > 0 {
                 let data = random.digits(lengths.data(), 3);
                 records.push(dpch_of(format, slot, slot % 2, &vec![2; lengths.tfci], &data));
             }

@@ -38,6 +38,8 @@ pub fn all(judge: &mut Judge) {
     read::numbers(judge);
     for number in 0..=16 {
         there_and_back(judge, number);
+        silence(judge, number);
+        mixed_digits(judge, number);
         map::fault_sets(judge, number);
         map::two_digits(judge, number);
         map::every_tfci(judge, number);
@@ -211,6 +213,41 @@ fn there_and_back(judge: &mut Judge, number: usize) {
             let sent =
                 Fields { tpc: call.tpc as u8, data: call.data.unwrap(), tfci: call.tfci.unwrap_or_default() };
             assert_eq!(back, sent, "the rules themselves do not round trip");
+        }
+    }
+}
+
+/// A silent TFCI field in every slot, mapped and read back.
+fn silence(judge: &mut Judge, number: usize) {
+    let mut random = Random::new(240 + number as u64);
+    let format = lengths_of(number);
+    for slot in 0..15 {
+        let mut call = good_map(&mut random, number, slot);
+        call.tfci = Some(vec![2; format.tfci]);
+        let run = call.compare(judge).expect("silence is taken in every format");
+        let back = read_of(number, slot, run).compare(judge).expect("a mapped slot");
+        assert_eq!(back.tfci, vec![2; format.tfci], "the rules themselves lose the silence");
+    }
+}
+
+/// One TFCI digit of the other kind, in a field of bits and in a silent one, mapped and read: told at that digit, and
+/// where it is the first one, at the second.
+fn mixed_digits(judge: &mut Judge, number: usize) {
+    let mut random = Random::new(260 + number as u64);
+    let format = lengths_of(number);
+    for index in 0..format.tfci {
+        for (others, digit) in [(0, 2), (1, 2), (2, 0), (2, 1)] {
+            let slot = random.below(15);
+            let mut call = good_map(&mut random, number, slot);
+            let good = vec![others; format.tfci];
+            let tpc = call.tpc as u8;
+            let mut run = rules::mapped(&format, slot, tpc, call.data.as_ref().unwrap(), &good);
+            let mut tfci = good;
+            tfci[index] = digit;
+            run[format.tfci_at() + index] = digit;
+            call.tfci = Some(tfci);
+            assert_eq!(call.compare(judge), None, "a mixed field is refused");
+            assert_eq!(read_of(number, slot, run).compare(judge), None, "a mixed field is refused");
         }
     }
 }

@@ -17,6 +17,7 @@ use crate::rules::frame::{self as rules, Fields, SLOTS};
 pub fn all(judge: &mut Judge) {
     for number in 0..=16 {
         there_and_back(judge, number);
+        silence_in_turn(judge, number);
         map::damaged(judge, number);
         map::faults_in_two_slots(judge, number);
         map::fault_sets(judge, number);
@@ -175,6 +176,29 @@ fn there_and_back(judge: &mut Judge, number: usize) {
         let tfci = call.tfci.unwrap_or_default();
         let sent = Fields { data: call.data.unwrap(), tfci, commands: call.commands.unwrap() };
         assert_eq!(back, sent, "the rules themselves do not round trip");
+    }
+}
+
+/// Silent and spoken slots in turn, from either on, and one silent slot among spoken ones and the other way round: mapped
+/// and read back.
+fn silence_in_turn(judge: &mut Judge, number: usize) {
+    let mut random = Random::new(200 + number as u64);
+    let format = lengths_of(number);
+    let turns = (0..2).map(|first| (0..SLOTS).map(|slot| slot % 2 == first).collect());
+    let alone = (0..SLOTS).map(|one| (0..SLOTS).map(|slot| slot == one).collect());
+    for silent in turns.chain(alone).collect::<Vec<Vec<bool>>>() {
+        for turned in [false, true] {
+            let mut call = good_map(&mut random, number);
+            let slot_tfci = |slot: usize, random: &mut Random| match silent[slot] != turned {
+                true => vec![2; format.tfci],
+                false => random.digits(format.tfci, 2),
+            };
+            let tfci: Vec<u8> = (0..SLOTS).flat_map(|slot| slot_tfci(slot, &mut random)).collect();
+            call.tfci = Some(tfci.clone());
+            let frame = call.compare(judge).expect("every slot stands by itself");
+            let back = read_of(number, frame).compare(judge).expect("a mapped frame");
+            assert_eq!(back.tfci, tfci, "the rules themselves lose the silence");
+        }
     }
 }
 

@@ -7,7 +7,6 @@ use denote.Ref.{now}
 use lib.Dec.{lit<}
 use Rattle.run.specs.First.{likeFirst}
 use Rattle.run.proofs.Chain.{or-else-is, each-is}
-use Rattle.dpch.specs.Formats.{silenceAllowed}
 use Rattle.slot.specs.Rule.{tfciStands}
 use Rattle.slot.specs.Outcome.{digitsVerdict}
 use Rattle.slot.proofs.Laws.{sum, start-tpc, start-tfci, start-pilot}
@@ -101,7 +100,7 @@ returns c =
     (or-else-is (c .before .before .before .or-else2 .ensures)
     (check-field f xs 1 _ _ (lit< tt) (sym (start-tpc f)) refl _ _ likeFirst _ _ (c .before .before .before .before .before .first-unlike .ensures) (c .before .before .before .before .placed3 .ensures))
     (or-else-is (c .before .before .before .before .before .before .before .or-else .ensures)
-    (check-field f xs 2 _ _ (lit< tt) (sym (start-tfci f)) refl _ _ (tfciStands (silenceAllowed (a .format))) _ _ (c .before .before .before .before .before .before .before .before .before .first-mixed .ensures) (c .before .before .before .before .before .before .before .before .placed2 .ensures))
+    (check-field f xs 2 _ _ (lit< tt) (sym (start-tfci f)) refl _ _ tfciStands _ _ (c .before .before .before .before .before .before .before .before .before .first-mixed .ensures) (c .before .before .before .before .before .before .before .before .placed2 .ensures))
     (check-pilot f xs (c .before .before .before .before .before .before .before .before .before .before .before .before .before .before .before .before .before .before .before .pre) (a .slot) _ _ (sym (start-pilot f)) refl _ _ _ _ (c .before .before .before .before .before .before .before .before .before .before .before .before .pilot-differs .ensures) (c .before .before .before .before .before .before .before .before .before .before .before .placed .ensures))))
 
 pub check-spec : {M : Type 1} → statement M
