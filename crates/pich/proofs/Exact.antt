@@ -115,7 +115,7 @@ module _ (np : ℕ) (indicators : List ℕ) (t : Taken np indicators 300) where
       (λ m. group-stands np (frameOf np indicators) k m (λ e. let s = group-digit k m in omega arith) (sym (first-of-group k m)))
       (λ m. tail-stands np (frameOf np indicators) k m (tail-at np indicators k m l))
 
-  mapped-accepted : readVerdict np (frameOf np indicators) np ≡ done
+  pub mapped-accepted : readVerdict np (frameOf np indicators) np ≡ done
   unfolding readVerdict readHead
   mapped-accepted =
       let long = frame-length np indicators in

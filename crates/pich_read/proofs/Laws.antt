@@ -1,20 +1,25 @@
--- Laws of the reader's scan of a frame, group by group and then the tail.
+-- Laws of the reader: its scan of a frame, group by group and then the tail, and what is accepted at once.
 -- Assumes nothing.
-use mathlib.Core.Path.{_≡_, ap, _∙_, subst}
+use mathlib.Core.Path.{_≡_, sym, ap, _∙_, subst}
 use mathlib.Core.Bool.{Bool, true}
 use mathlib.Core.List.{List}
-use Prim.Native.Nat.{ℕ, _+_, _-_, _*_, _/_, _≤_, _<_}
+use Prim.Native.Nat.{ℕ, _+_, _-_, _*_, _/_, _≤_, _<_, min}
 use native.Mathlib.Nat.{add-zero}
 use native.Mathlib.Omega.{arith}
 use borrow.Author.Tests.{lt-ltb, le-ltb}
 use lib.ListN.{length, getD, take, drop}
+use Rattle.run.specs.declared.Verdict.{Verdict}
 use Rattle.run.specs.Digits.{dtx}
-use Rattle.run.specs.First.{firstBad, Every, isAt, likeFirst}
+use Rattle.run.specs.First.{firstBad, Every, isAt, likeFirst, agree}
+use Rattle.run.specs.Verdicts.{done}
+use Rattle.run.proofs.Chain.{leaves-done}
 use Rattle.run.proofs.First.{first-le, first-in-part, part-passes, first-in-last}
 use Rattle.run.proofs.Lent.{part-length, part-at}
-use Rattle.pich.specs.Rule.{isNp, width}
-use Rattle.pich.specs.Outcome.{stands}
-use Rattle.pich.proofs.Laws.{groups}
+use Rattle.scan.proofs.Laws.{found-same}
+use Rattle.pich.specs.Rule.{isNp, width, frameOf}
+use Rattle.pich.specs.Outcome.{mapVerdict, Map, stands, readVerdict}
+use Rattle.pich.proofs.Laws.{groups, frame-length, taken}
+use Rattle.pich.proofs.Exact.{mapped-accepted}
 
 -- what a scan answers is no more than the length
 pub within : (ok : ℕ → Bool) (n r : ℕ) → r ≡ firstBad ok n → r ≤ n
@@ -72,3 +77,12 @@ module _ (np : ℕ) (ok : isNp np ≡ true) (frame : List ℕ) (long : length fr
   last i before f =
       let found = rw (part-length frame 288 12 (omega arith)) at f in
       rw found (first-in-last (stands np frame) (isAt dtx (take 12 (drop 288 frame))) 288 12 before in-tail)
+
+-- a frame in which no place differs from what `map` gives is accepted
+pub given-accepted : (np : ℕ) (frame : List ℕ) {indicators f₀ again : List ℕ} {v : Verdict} {i : ℕ} → Map np indicators f₀ v again → v .number ≡ 0
+    → length f₀ ≡ 300 → length frame ≡ 300 → i ≡ firstBad (agree again frame) (min (length again) (length frame)) → 300 ≤ i → readVerdict np frame np ≡ done
+given-accepted np frame {indicators} {f₀} {again} m h n l e p =
+    let z : mapVerdict np indicators (length f₀) .number ≡ 0 = rw (m .verdict-is) at h in
+    let is : again ≡ frameOf np indicators = m .frame-is ∙ leaves-done _ _ _ z in
+    let same = found-same _ _ 300 _ (ap length is ∙ frame-length np indicators) l e p in
+    subst (λ (f : List ℕ). readVerdict np f np ≡ done) (sym is ∙ same) (mapped-accepted np indicators (taken np indicators 300 (rw n at z)))
