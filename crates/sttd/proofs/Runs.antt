@@ -3,12 +3,14 @@
 use mathlib.Core.Path.{_≡_, refl, sym, ap, _∙_, subst}
 use mathlib.Core.Bool.{true}
 use mathlib.Core.List.{List}
-use Prim.Native.Nat.{ℕ, _+_, _*_, _/_, _%_, _≤_, _<_, min}
+use Prim.Native.Nat.{ℕ, _+_, _-_, _*_, _/_, _%_, _≤_, _<_, min}
 use native.Mathlib.Omega.{arith}
 use borrow.Author.Tests.{eqb-true, leb-true}
+use borrow.Rule.Slice.PartMut.{putMid, midOf}
 use lib.Bits.{bitXor}
+use lib.Dec.{leb}
 use lib.IntN.{ℤ, pos, negℤ}
-use lib.ListN.{length, getD, set, take, drop, length-set}
+use lib.ListN.{length, getD, set, take, drop, length-set, length-drop}
 use lib.Seq.{take-all, getD-take, length-take-le}
 use mir.Syntax.{w32}
 use mir.Val.{toZ, ofZ}
@@ -16,13 +18,15 @@ use mir.ValLaws.{toZ-ofZ}
 use Rattle.run.specs.First.{Every, atMost}
 use Rattle.run.specs.Written.{over}
 use Rattle.run.proofs.Chain.{or-else-done, unless-done, each-done}
-use Rattle.run.proofs.Front.{Front, front-length, front-store, front-end}
+use Rattle.run.proofs.Front.{Front, front-length, front-store, front-part, front-lent, front-end}
+use Rattle.run.proofs.Lent.{same-part}
+use Rattle.run.proofs.Each.{each-take, each-drop}
 use Rattle.run.proofs.Over.{over-length, over-at, over-rest, over-whole}
 use Rattle.sttd.specs.Rule.{sttd, barDigit}
 use Rattle.sttd.specs.Outcome.{digitsVerdict, valueIn, valuesIn, valuesVerdict, encodedOver}
 use Rattle.sttd.specs.Exact.{Block}
 use Rattle.sttd.proofs.Bars.{bar-by-cap, value-fits, negated-fits}
-use Rattle.sttd.proofs.Laws.{sttd-length, block-at}
+use Rattle.sttd.proofs.Laws.{sttd-length, sttd-take, sttd-drop, block-at}
 
 module _ {A : Type 0} (bar : A → A) where
   -- the four stores of a block from i on: one block more of t stands, where t is antenna 2's run so far
@@ -69,6 +73,23 @@ module _ (input out₀ : List ℕ) (k : ℕ) (given : 4 * k ≤ length input) (r
   rest-kept : drop (4 * k) (over (sttd barDigit (take (4 * k) input)) out₀) ≡ drop (4 * k) out₀
   rest-kept = let m = coded-length in over-rest (sttd barDigit (take (4 * k) input)) out₀ (4 * k) (omega arith)
 
+-- a part of a run of digits
+pub part-digits : (s : List ℕ) (a w : ℕ) → Every (atMost 2 s) (length s) → Every (atMost 2 (take w (drop a s))) (length (take w (drop a s)))
+part-digits s a w ok = each-take (λ (d : ℕ). leb d 2) w (drop a s) (each-drop (λ (d : ℕ). leb d 2) a s ok)
+
+-- parts of two runs that are lent alike are of one length
+pub parts-lent : (input : List ℕ) {t out₀ out : List ℕ} {b : ℕ} (a e : ℕ) → Front t out₀ out b → a ≤ e → e ≤ length input → e ≤ length out₀
+    → (length (take (e - a) (drop a input)) ≡ e - a) × (length (midOf a (e - a) out) ≡ e - a)
+parts-lent input a e f h l m =
+    (length-take-le (e - a) (drop a input) (simp length-drop (omega arith)), front-lent a e f m)
+
+-- of runs of one length that is a multiple of four, the whole
+pub encoded-whole : (input out₀ : List ℕ) → length input % 4 ≡ 0 → length out₀ ≡ length input → encodedOver input out₀ ≡ sttd barDigit input
+unfolding encodedOver
+encoded-whole input out₀ d e =
+    let all : length input ≤ 4 * (min (length input) (length out₀) / 4) = omega arith in
+    rw (take-all (4 * (min (length input) (length out₀) / 4)) input all) (over-whole (sttd barDigit input) out₀ (sttd-length barDigit input ∙ sym e))
+
 module _ (input out₀ : List ℕ) where
   pub encoded-length : length (encodedOver input out₀) ≡ length out₀
   unfolding encodedOver
@@ -93,18 +114,41 @@ module _ (input out₀ : List ℕ) where
       let s3 = small (i + 3) (omega arith) in
       encoded-block e d h f (e0 ∙ bar-by-cap _ (small (i + 2) (omega arith))) (omega arith) (omega arith) (e3 ∙ bar-by-cap _ (small (i + 1) (omega arith)))
 
+  -- within the blocks, what stands is antenna 2's digit
+  encoded-at : (j : ℕ) → j < 4 * (min (length input) (length out₀) / 4) → getD (sttd barDigit input) j 0 ≡ getD (encodedOver input out₀) j 0
+  unfolding encodedOver
+  encoded-at j h =
+      let k = min (length input) (length out₀) / 4 in
+      let m = coded-length input out₀ k (omega arith) (omega arith) in
+      sym (over-at (sttd barDigit (take (4 * k) input)) out₀ j 0 (omega arith) ∙ rw (sttd-take barDigit k input) (getD-take (4 * k) (sttd barDigit input) j 0 h))
+
+  -- whole blocks from a to e are lent, of both runs alike, and come back encoded
+  pub encoded-part : {out ys : List ℕ} {n a : ℕ} (e : ℕ) → n ≡ min (length input) (length out₀) → a % 4 ≡ 0 → e % 4 ≡ 0 → a ≤ e → e ≤ n
+      → Front (encodedOver input out₀) out₀ out a → ys ≡ encodedOver (take (e - a) (drop a input)) (midOf a (e - a) out)
+      → Front (encodedOver input out₀) out₀ (putMid a (e - a) out ys) e
+  encoded-part {out} {ys} {n} {a} e is da de h w f y =
+      let t = encoded-length in
+      let p = parts-lent input a e f h (omega arith) (omega arith) in
+      let src = p .0 in
+      front-part e f h (omega arith) (y ∙ encoded-whole _ _ (omega arith) (p .1 ∙ sym src) ∙ shifted ∙ placed)
+    where
+      shifted : sttd barDigit (take (e - a) (drop a input)) ≡ take (e - a) (drop a (sttd barDigit input))
+      shifted =
+          let from : 4 * (a / 4) ≡ a = omega arith in
+          let wide : 4 * ((e - a) / 4) ≡ e - a = omega arith in
+          rw (← wide, sttd-take barDigit ((e - a) / 4) (drop a input), ← from, sttd-drop barDigit (a / 4) input)
+
+      placed : take (e - a) (drop a (sttd barDigit input)) ≡ take (e - a) (drop a (encodedOver input out₀))
+      placed =
+          let l = sttd-length barDigit input in
+          let t = encoded-length in
+          same-part 0 (sttd barDigit input) (encodedOver input out₀) a a (e - a) (omega arith) (omega arith) (λ j m. encoded-at (a + j) (omega arith))
+
   pub encoded-end : {out : List ℕ} {n i : ℕ} → n ≡ min (length input) (length out₀) → i ≡ 4 * (n / 4) → Front (encodedOver input out₀) out₀ out i → out ≡ encodedOver input out₀
   unfolding encodedOver
   encoded-end {i = i} e h f =
       let all : 4 * (min (length input) (length out₀) / 4) ≡ i = omega arith in
       front-end f (rw (← all) (rest-kept input out₀ (min (length input) (length out₀) / 4) (omega arith) (omega arith)))
-
-  -- of runs of one length that is a multiple of four, the whole
-  pub encoded-whole : length input % 4 ≡ 0 → length out₀ ≡ length input → encodedOver input out₀ ≡ sttd barDigit input
-  unfolding encodedOver
-  encoded-whole d e =
-      let all : length input ≤ 4 * (min (length input) (length out₀) / 4) = omega arith in
-      rw (take-all (4 * (min (length input) (length out₀) / 4)) input all) (over-whole (sttd barDigit input) out₀ (sttd-length barDigit input ∙ sym e))
 
 -- ---- the blocks of 32 values
 module _ (input : List ℤ) (long : length input ≡ 32) (ok : Every (valuesIn input) 32) where

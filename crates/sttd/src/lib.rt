@@ -4,7 +4,7 @@ use run::or_else;
 use run::refusal;
 use run::unless;
 ghost use mathlib.Core.Path.{_≡_};
-ghost use Prim.Native.Nat.{min};
+ghost use Prim.Native.Nat.{_%_, min};
 ghost use lib.ListN.{length};
 ghost use Rattle.run.specs.First.{Every, atMost};
 ghost use Rattle.sttd.specs.Rule.{barDigit};
@@ -44,8 +44,35 @@ fn capped(d: u8) -> u8
     if d < 2 { d } else { 2 }
 }
 
-// The same for digits. The lowest bit of b1 and b2 changes, and the cap brings DTX back, which it leaves where it stood. So all four digits of a block go the
-// same way, and the compiler takes a block at once.
+// One block of digits. The lowest bit of b1 and b2 changes, and the cap brings DTX back, which it leaves where it stood: so all digits go the same way.
+fn encode_block(input: &[u8], out: &mut [u8])
+    requires { ⌜ (length (now input) ≡ 4) × (length (now out) ≡ 4) × Every (atMost 2 (now input)) (length (now input)) ⌝ }
+    ensures { λ _. ⌜ now (out .exit) ≡ encodedOver (now (input .entry)) (now (out .entry)) ⌝ }
+{
+    let b0 = input[0];
+    let b1 = input[1];
+    let b2 = input[2];
+    let b3 = input[3];
+    out[0] = capped(b2 ^ 1);
+    out[1] = capped(b3);
+    out[2] = capped(b0);
+    out[3] = capped(b1 ^ 1);
+}
+
+// Block after block.
+fn encode_blocks(input: &[u8], out: &mut [u8])
+    requires { ⌜ (length (now input) % 4 ≡ 0) × (length (now out) ≡ length (now input)) × Every (atMost 2 (now input)) (length (now input)) ⌝ }
+    ensures { λ _. ⌜ now (out .exit) ≡ encodedOver (now (input .entry)) (now (out .entry)) ⌝ }
+{
+    let mut i = 0;
+    while i < input.len() {
+        let e = i + 4;
+        encode_block(&input[i..e], &mut out[i..e]);
+        i = e;
+    }
+}
+
+// The same for digits: four blocks at a time, which the compiler takes at once, and then those that are left.
 fn encode_digits(input: &[u8], out: &mut [u8])
     requires { ⌜ Every (atMost 2 (now input)) (length (now input)) ⌝ }
     ensures { λ _. ⌜ now (out .exit) ≡ encodedOver (now (input .entry)) (now (out .entry)) ⌝ }
@@ -53,17 +80,12 @@ fn encode_digits(input: &[u8], out: &mut [u8])
     let n = run::shorter(input.len(), out.len());
     let end = 4 * (n / 4);
     let mut i = 0;
-    while i < end {
-        let b0 = input[i];
-        let b1 = input[i + 1];
-        let b2 = input[i + 2];
-        let b3 = input[i + 3];
-        out[i] = capped(b2 ^ 1);
-        out[i + 1] = capped(b3);
-        out[i + 2] = capped(b0);
-        out[i + 3] = capped(b1 ^ 1);
-        i += 4;
+    while 16 <= end - i {
+        let e = i + 16;
+        encode_blocks(&input[i..e], &mut out[i..e]);
+        i = e;
     }
+    encode_blocks(&input[i..end], &mut out[i..end]);
 }
 
 // As many whole blocks of four as both runs have, encoded over the front of `out`.
