@@ -82,6 +82,11 @@ impl<T: Element> Lent<T> {
         self.store.as_mut_ptr().wrapping_add(GUARD)
     }
 
+    /// What the run holds now.
+    pub fn run(&self) -> &[T] {
+        &self.store[GUARD..GUARD + self.len()]
+    }
+
     /// What is wrong if run and guards should be exactly as before: a run that is only read, or a refusal.
     pub fn kept(&self, name: &str) -> Option<String> {
         self.holds(name, &self.before[GUARD..GUARD + self.len()])

@@ -1,5 +1,6 @@
 //! What the programs of this package stand on: the rules, written a second time from docs/RULES.md alone
-//! (`rules/`), and the inputs that several try. Nothing here knows the library or the program that is judged.
+//! (`rules/`), the laws that the encoder of the second antenna keeps (`laws.rs`), and the inputs that several try.
+//! Nothing here knows the library or the program that is judged.
 
 #![deny(warnings)]
 #![deny(unsafe_code)]
@@ -8,5 +9,6 @@
 
 pub mod answer;
 pub mod fields;
+pub mod laws;
 pub mod random;
 pub mod rules;

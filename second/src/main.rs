@@ -20,7 +20,7 @@ mod judge;
 mod lent;
 
 use judge::Judge;
-use second::{answer, fields, random, rules};
+use second::{answer, fields, laws, random, rules};
 
 /// The name of a channel and what runs all of its comparisons.
 type Channel = (&'static str, fn(&mut Judge));

@@ -1,32 +1,29 @@
 -- The theorems of specs/Exact.antt.
 -- Assumes nothing.
 use mathlib.Core.Path.{_≡_, refl, sym, ap, _∙_}
-use mathlib.Core.List.{List}
-use Prim.Native.Nat.{ℕ, _+_, _*_, _<_}
-use native.Mathlib.Omega.{arith}
+use mathlib.Core.List.{[], _∷_}
+use Prim.Native.Nat.{_+_, _*_}
 use borrow.Author.Tests.{eq-eqb}
 use lib.Dec.{lit<}
-use lib.ListN.{getD}
-use lib.IntN.{ℤ, pos, negℤ, _*ℤ_}
+use lib.IntN.{ℤ, pos, negℤ, _+ℤ_, _-ℤ_, _*ℤ_}
 use Rattle.run.specs.Ranges.{between}
 use Rattle.run.specs.Table.{tab}
 use Rattle.run.proofs.Chain.{or-else-pass, unless-pass, each-pass, check-narrow, unless-narrow, each-narrow, or-else-narrow, one-outcome, number-0}
-use Rattle.run.proofs.Table.{tab-length, tab-at, tab-is}
-use Rattle.whole.specs.Sum.{sum}
+use Rattle.run.proofs.Table.{tab-length, tab-at, tab-same}
 use Rattle.whole.proofs.Bound.{range-low, range-high}
-use Rattle.whole.proofs.Laws.{*ℤ-neg}
-use Rattle.whole.proofs.Sum.{sum-same, sum-neg}
+use Rattle.whole.proofs.Ring.{solve, quoted, ring}
+use Rattle.whole.proofs.Sum.{sum-same}
 use Rattle.signature.specs.Rule.{sign}
 use Rattle.aich.specs.Rule.{valueAt, valuesOf}
 use Rattle.aich.proofs.Checks.{taken}
 use Rattle.aich.proofs.Laws.{entry, values-length, value-at, value-small}
 use Rattle.sttd.specs.Rule.{sttd}
 use Rattle.sttd.specs.Outcome.{valuesVerdict}
-use Rattle.sttd.specs.Exact.{Block}
-use Rattle.sttd.proofs.Laws.{sttd-length, block}
+use Rattle.sttd.specs.Antenna2.{productRe, productIm, combination}
+use Rattle.sttd.proofs.Antenna2.{encoded-combination}
+use Rattle.correlator.specs.Complexes.{cx}
 use Rattle.combiner.specs.Outcome.{combineHead, combineBody, combineVerdict}
-use Rattle.combiner.specs.Exact.{EncoderTakes, SumOfEncoded, CombineOnce, Packs}
-use Rattle.combiner.proofs.Fours.{by-fours}
+use Rattle.combiner.specs.Exact.{EncoderTakes, SumOfEncoded, ProductAgrees, CombineOnce, Packs}
 
 pub encoder-takes : EncoderTakes
 unfolding valuesVerdict between
@@ -40,54 +37,22 @@ encoder-takes indicators e =
     let b = value-small indicators j (units .small) in
     rw (value-at indicators j (rw n at l), range-low 15 _ b, range-high 15 _ b))))
 
--- ---- encoding each signature before summing
-module _ (indicators : List ℤ) where
-  abbrev v : List ℤ
-  v = valuesOf indicators
-
-  signature : ℕ → List ℤ
-  signature s = tab 32 (sign s)
-
-  -- the sum of the encoded signatures at place j
-  summed : ℕ → ℤ
-  summed j = sum 16 (λ (s : ℕ). entry indicators s *ℤ getD (sttd negℤ (signature s)) j (pos 0))
-
-  blocks : (m : ℕ) → m < 8 → Block negℤ v (pos 0) (4 * m)
-  blocks m h = let n = values-length indicators in block negℤ v (pos 0) m (omega arith)
-
-  rows : (s m : ℕ) → m < 8 → Block negℤ (signature s) (pos 0) (4 * m)
-  unfolding signature
-  rows s m h = let n = tab-length 32 (sign s) in block negℤ (signature s) (pos 0) m (omega arith)
-
-  -- a sign that is sent as it is, from place k, and one that is barred
-  plain : (j k : ℕ) → k < 32 → ((s : ℕ) → getD (sttd negℤ (signature s)) j (pos 0) ≡ entry (signature s) k) → summed j ≡ entry v k
-  unfolding summed signature valueAt
-  plain j k h e =
-      sum-same 16 _ (λ s. entry indicators s *ℤ sign s k) (λ s l. ap (λ (z : ℤ). entry indicators s *ℤ z) (e s ∙ tab-at 32 (sign s) k (pos 0) h))
-      ∙ sym (value-at indicators k h)
-
-  barred : (j k : ℕ) → k < 32 → ((s : ℕ) → getD (sttd negℤ (signature s)) j (pos 0) ≡ negℤ (entry (signature s) k)) → summed j ≡ negℤ (entry v k)
-  unfolding summed signature valueAt
-  barred j k h e =
-      sum-same 16 _ (λ s. negℤ (entry indicators s *ℤ sign s k))
-      (λ s l. ap (λ (z : ℤ). entry indicators s *ℤ z) (e s ∙ ap negℤ (tab-at 32 (sign s) k (pos 0) h)) ∙ *ℤ-neg (entry indicators s) (sign s k))
-      ∙ sum-neg 16 (λ s. entry indicators s *ℤ sign s k)
-      ∙ sym (ap negℤ (value-at indicators k h))
-
-  encoded-at : (j : ℕ) → j < 32 → getD (sttd negℤ v) j (pos 0) ≡ summed j
-  encoded-at =
-      by-fours (λ (j : ℕ). getD (sttd negℤ v) j (pos 0) ≡ summed j)
-      (λ m h. blocks m h .first ∙ sym (barred (4 * m) (4 * m + 2) (omega arith) (λ s. rows s m h .first)))
-      (λ m h. blocks m h .second ∙ sym (plain (4 * m + 1) (4 * m + 3) (omega arith) (λ s. rows s m h .second)))
-      (λ m h. blocks m h .third ∙ sym (plain (4 * m + 2) (4 * m) (omega arith) (λ s. rows s m h .third)))
-      (λ m h. blocks m h .fourth ∙ sym (barred (4 * m + 3) (4 * m + 1) (omega arith) (λ s. rows s m h .fourth)))
-
-  encoded-sum : tab 32 summed ≡ sttd negℤ v
-  encoded-sum = sym (tab-is (pos 0) (sttd negℤ v) 32 summed (sttd-length negℤ v ∙ values-length indicators) encoded-at)
-
+-- what the indicators give is a sum of signatures, each times its indicator
 pub sum-of-encoded : SumOfEncoded
-unfolding summed signature
-sum-of-encoded = encoded-sum
+unfolding combination valuesOf valueAt
+sum-of-encoded indicators =
+    sym (encoded-combination 32 16 (entry indicators) (λ s. tab 32 (sign s)) (λ s l. tab-length 32 (sign s)))
+    ∙ ap (sttd negℤ) (tab-same 32 _ _ (λ j h. sum-same 16 _ _ (λ s l. ap (λ (z : ℤ). entry indicators s *ℤ z) (tab-at 32 (sign s) j (pos 0) h))))
+
+-- (a + ib)·(c - id), part by part
+conj-product : (a b c d : ℤ) → (a *ℤ c -ℤ b *ℤ negℤ d ≡ a *ℤ c +ℤ b *ℤ d) × (a *ℤ negℤ d +ℤ b *ℤ c ≡ b *ℤ c -ℤ a *ℤ d)
+conj-product a b c d = ring (a ∷ b ∷ c ∷ d ∷ []) (λ ρ p q r u. simp (p, q, r, u, quoted) (solve ρ _ _ tt, solve ρ _ _ tt))
+
+pub product-agrees : ProductAgrees
+unfolding productRe productIm
+product-agrees s t k =
+    let parts = conj-product (entry s (2 * k)) (entry s (2 * k + 1)) (entry t (2 * k)) (entry t (2 * k + 1)) in
+    λ i. cx (parts .0 i) (parts .1 i)
 
 pub combine-once : CombineOnce
 combine-once h1 h2 received results a b x y p r =

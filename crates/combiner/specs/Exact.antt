@@ -15,7 +15,10 @@ use Rattle.aich.specs.Rule.{valuesOf}
 use Rattle.aich.specs.Outcome.{mapVerdict}
 use Rattle.sttd.specs.Rule.{sttd}
 use Rattle.sttd.specs.Outcome.{valuesVerdict}
+use Rattle.sttd.specs.Antenna2.{productRe, productIm}
 use Rattle.correlator.specs.declared.Complex.{Complex}
+use Rattle.correlator.specs.Complexes.{cx, _⊠_, conj}
+use Rattle.correlator.specs.Rule.{symbol}
 use Rattle.combiner.specs.Outcome.{combineVerdict, Combine}
 
 -- what `aich::map` writes, `sttd_values::values` takes
@@ -28,6 +31,10 @@ SumOfEncoded =
     (indicators : List ℤ)
     → tab 32 (λ (j : ℕ). sum 16 (λ (s : ℕ). getD indicators s (pos 0) *ℤ getD (sttd negℤ (tab 32 (sign s))) j (pos 0)))
     ≡ sttd negℤ (valuesOf indicators)
+
+-- the product of the two antennas, as the laws of `sttd` say it by its parts (sttd, specs/Antenna2.antt), is the product of complex numbers
+abbrev pub ProductAgrees : Type 0
+ProductAgrees = (s t : List ℤ) (k : ℕ) → symbol s k ⊠ conj (symbol t k) ≡ cx (productRe s t k) (productIm s t k)
 
 -- the promise allows one outcome
 abbrev pub CombineOnce : Type 0

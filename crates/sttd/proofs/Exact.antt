@@ -6,18 +6,17 @@ use Prim.Native.Nat.{ℕ, _≤_}
 use native.Mathlib.Omega.{arith}
 use borrow.Author.Tests.{eqb-true}
 use lib.Dec.{lit<}
-use lib.IntN.{ℤ, negℤ-negℤ}
+use lib.IntN.{ℤ}
 use lib.ListN.{length}
 use Rattle.run.specs.Verdicts.{Narrow}
 use Rattle.run.proofs.Chain.{check-narrow, each-narrow, one-outcome}
 use Rattle.sttd.specs.Rule.{sttd}
 use Rattle.sttd.specs.Outcome.{digitsVerdict, valuesVerdict}
-use Rattle.sttd.specs.Exact.{readBack, Involutive, RuleLaws, BothBars, DigitsOnce, ValuesOnce, Packs}
-use Rattle.sttd.proofs.Bars.{bar-twice}
+use Rattle.sttd.specs.Exact.{readBack, Involutive, RuleLaws, DigitsOnce, ValuesOnce, Packs}
 use Rattle.sttd.proofs.Laws.{sttd-length, block, tail-kept}
 
 module _ {A : Type 0} (bar : A → A) (twice : Involutive bar) where
-  read-back : (s : List A) → readBack bar (sttd bar s) ≡ s
+  pub read-back : (s : List A) → readBack bar (sttd bar s) ≡ s
   unfolding sttd readBack
   read-back [] = refl
   read-back (b0 ∷ []) = refl
@@ -37,9 +36,6 @@ rule-laws A bar =
       reads-back = read-back bar;
       one-input = one-input bar;
     }
-
-pub both-bars : BothBars
-both-bars = record { of-digits = bar-twice; of-values = negℤ-negℤ }
 
 pub digits-once : DigitsOnce
 digits-once input out a b x y p r = (one-outcome (p .verdict-is) (r .verdict-is), one-outcome (p .out-is) (r .out-is))

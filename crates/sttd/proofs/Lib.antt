@@ -2,3 +2,4 @@ pub mod Laws
 pub mod Bars
 pub mod Runs
 pub mod Exact
+pub mod Antenna2

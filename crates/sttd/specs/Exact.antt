@@ -5,10 +5,10 @@ use Prim.Native.Nat.{ℕ, _+_, _*_, _≤_, _<_}
 use mathlib.Core.Path.{_≡_}
 use mathlib.Core.List.{List, [], _∷_}
 use lib.ListN.{length, getD, drop}
-use lib.IntN.{ℤ, negℤ}
+use lib.IntN.{ℤ}
 use Rattle.run.specs.declared.Verdict.{Verdict}
 use Rattle.run.specs.Verdicts.{Narrow}
-use Rattle.sttd.specs.Rule.{sttd, barDigit}
+use Rattle.sttd.specs.Rule.{sttd}
 use Rattle.sttd.specs.Outcome.{digitsVerdict, Digits, valuesVerdict, Values}
 
 -- b0 b1 b2 b3 on antenna 1 make bar b2, b3, b0, bar b1 on antenna 2, for the block that begins at entry i
@@ -41,11 +41,6 @@ pub record Laws {A : Type 0} (bar : A → A) : Type 0 where
 
 abbrev pub RuleLaws : Type 1
 RuleLaws = (A : Type 0) (bar : A → A) → Laws bar
-
--- the bar of a digit and the bar of a value undo themselves
-pub record BothBars : Type 0 where
-  pub of-digits : Involutive barDigit
-  pub of-values : Involutive negℤ
 
 -- each promise allows one outcome
 abbrev pub DigitsOnce : Type 0

@@ -4,6 +4,7 @@ use Prim.Native.Nat.{ℕ}
 use mathlib.Core.Bool.{cond}
 use mathlib.Core.List.{List, [], _∷_}
 use lib.Dec.{eqb}
+use lib.IntN.{ℤ, pos, negsuc}
 
 -- b0 b1 b2 b3 on antenna 1 make bar b2, b3, b0, bar b1 on antenna 2, block by block.
 -- The encoder works on whole blocks: one, two or three entries behind the last of them are not encoded and stay as they are.
@@ -17,3 +18,8 @@ sttd bar (b0 ∷ b1 ∷ b2 ∷ b3 ∷ rest) = bar b2 ∷ b3 ∷ b0 ∷ bar b1 �
 -- the bar of a digit: 0 and 1 change places, DTX stays. Of an AICH value it is negation, `negℤ`.
 unfoldable pub barDigit : ℕ → ℕ
 barDigit d = cond (eqb d 0) 1 (cond (eqb d 1) 0 d)
+
+-- the real value of a digit: +1 for 0, -1 for 1, 0 for DTX (docs/RULES.md, 'Digits'). A number that is no digit has the value 0 too: its bar is itself, so 0 is the one
+-- value that the bar's value can be the negative of.
+unfoldable pub digitValue : ℕ → ℤ
+digitValue d = cond (eqb d 0) (pos 1) (cond (eqb d 1) (negsuc 0) (pos 0))

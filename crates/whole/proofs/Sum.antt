@@ -53,8 +53,8 @@ unfolding sum
 sum-swap zero n f = sym (sum-zero n)
 sum-swap (suc m) n f = rw (sum-swap m n f) (sym (sum-plus n (λ j. sum m (λ i. f i j)) (λ j. f m j)))
 
--- every term but that at t is 0
-sum-none : (n : ℕ) (f : ℕ → ℤ) → ((i : ℕ) → i < n → f i ≡ pos 0) → sum n f ≡ pos 0
+-- every term is 0, and every term but that at t
+pub sum-none : (n : ℕ) (f : ℕ → ℤ) → ((i : ℕ) → i < n → f i ≡ pos 0) → sum n f ≡ pos 0
 sum-none n f h = sum-same n f (λ i. pos 0) h ∙ sum-zero n
 
 pub sum-one : (n : ℕ) (f : ℕ → ℤ) (t : ℕ) → t < n → ((i : ℕ) → i < n → (i ≡ t → ⊥) → f i ≡ pos 0) → sum n f ≡ f t

@@ -4,6 +4,7 @@ use super::lengths;
 use crate::answer::Answer;
 use crate::ffi;
 use crate::judge::{Judge, room_in_words, shortened};
+use crate::laws::{self, Kept, every_run};
 use crate::lent::Lent;
 use crate::random::Random;
 use crate::rules::sttd::{self as rules, VALUES};
@@ -22,13 +23,16 @@ pub fn all(judge: &mut Judge) {
     damaged_values(judge);
     value_lengths(judge);
     signatures_before_summing(judge);
+    laws_of_digits(judge);
+    laws_of_values(judge);
     judge.must_have_seen("slt_sttd_digits", &[0, 3, 4]);
     judge.must_have_seen("slt_sttd_values", &[0, 3, 11]);
 }
 
 // One call each, compared.
 
-fn digits(judge: &mut Judge, input: Option<&[u8]>, room: Option<usize>) {
+/// Compares one call and answers what the library left in the output.
+fn digits(judge: &mut Judge, input: Option<&[u8]>, room: Option<usize>) -> Vec<u8> {
     let expected = rules::digits(input.unwrap_or(&[]), room.unwrap_or(0));
     let mut lent_input = Lent::holding(input, judge.salt());
     let mut lent_out = Lent::room(room, judge.salt());
@@ -40,9 +44,10 @@ fn digits(judge: &mut Judge, input: Option<&[u8]>, room: Option<usize>) {
         got,
         [lent_input.kept("in"), lent_out.after("out", expected.as_deref().ok())],
     );
+    lent_out.run().to_vec()
 }
 
-/// Compares one call and answers the encoded values, if the rules give them.
+/// Compares one call and answers what the library left in the output, if the rules take the input.
 fn values(judge: &mut Judge, input: Option<&[i32]>, room: Option<usize>) -> Option<Vec<i32>> {
     let expected = rules::values(input.unwrap_or(&[]), room.unwrap_or(0));
     let mut lent_input = Lent::holding(input, judge.salt());
@@ -55,7 +60,7 @@ fn values(judge: &mut Judge, input: Option<&[i32]>, room: Option<usize>) -> Opti
         got,
         [lent_input.kept("in"), lent_out.after("out", expected.as_deref().ok())],
     );
-    expected.ok()
+    expected.ok().map(|_| lent_out.run().to_vec())
 }
 
 // Digits
@@ -67,8 +72,7 @@ fn every_block(judge: &mut Judge) {
         let block: Vec<u8> = (0..4).map(|place| choices[set / 5_usize.pow(place) % 5]).collect();
         digits(judge, Some(&block), Some(4));
     }
-    for set in 0..3_usize.pow(8) {
-        let blocks: Vec<u8> = (0..8).map(|place| (set / 3_usize.pow(place) % 3) as u8).collect();
+    for blocks in every_run(8) {
         digits(judge, Some(&blocks), Some(8));
     }
 }
@@ -197,6 +201,38 @@ fn signatures_before_summing(judge: &mut Judge) {
             }
         }
         let encoded_sum = values(judge, Some(&sum), Some(VALUES)).expect("values in range");
-        assert_eq!(encoded_sum, sum_of_encoded, "the rules themselves: summing first or last differs");
+        assert_eq!(encoded_sum, sum_of_encoded, "summing first or last differs");
+    }
+}
+
+// The laws of the second antenna, of what the library writes. It is lent what it wrote before.
+
+/// Every block and every two blocks, and longer runs.
+fn laws_of_digits(judge: &mut Judge) {
+    let mut random = Random::new(6);
+    let mut runs: Vec<Vec<u8>> = every_run(4).chain(every_run(8)).collect();
+    for length in (0..=300).step_by(4) {
+        runs.push(random.digits(length, 3));
+        runs.push(random.digits(length, 2));
+    }
+    for run in &runs {
+        let encode = |s: &[u8]| digits(judge, Some(s), Some(s.len()));
+        assert_eq!(laws::kept(encode, rules::bar, rules::value, run), Kept::ALL, "laws of digits: {run:?}");
+    }
+}
+
+/// Random values, and sums and multiples that stay within -16 to 16.
+fn laws_of_values(judge: &mut Judge) {
+    let mut random = Random::new(7);
+    let mut draw = |limit: i32| -> Vec<i32> {
+        (0..VALUES).map(|_| random.below(2 * limit as usize + 1) as i32 - limit).collect()
+    };
+    for _ in 0..2000 {
+        let mut encode = |s: &[i32]| values(judge, Some(s), Some(VALUES)).expect("values in range");
+        let run = draw(16);
+        assert_eq!(laws::kept(&mut encode, rules::negated, |z| z, &run), Kept::ALL, "laws of values: {run:?}");
+        for terms in [vec![(1, draw(8)), (1, draw(8))], vec![(-4, draw(4))], vec![(3, draw(2)), (-2, draw(5))]] {
+            assert!(laws::adds(&mut encode, &terms), "encoding a sum: {terms:?}");
+        }
     }
 }

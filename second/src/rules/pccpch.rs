@@ -24,7 +24,7 @@ fn frame_of(data: &[u8]) -> Vec<u8> {
 
 /// STTD over digits 0 to 267 in fours, whatever slot they stand in; digits 268 and 269 are the same.
 fn second_antenna(data: &[u8]) -> Vec<u8> {
-    let mut other: Vec<u8> = data[..268].chunks(4).flat_map(sttd::block).collect();
+    let mut other = sttd::encoded(sttd::bar, &data[..268]);
     other.extend_from_slice(&data[268..]);
     other
 }

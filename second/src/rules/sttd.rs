@@ -14,9 +14,30 @@ pub fn bar(digit: u8) -> u8 {
     }
 }
 
-/// Digits b0 b1 b2 b3 on antenna 1 give, on antenna 2: bar b2, b3, b0, bar b1.
-pub fn block(b: &[u8]) -> [u8; 4] {
+/// As a real value 0 is +1, 1 is -1, DTX is 0.
+pub fn value(digit: u8) -> i32 {
+    match digit {
+        0 => 1,
+        1 => -1,
+        _ => 0,
+    }
+}
+
+/// For AICH values the bar is negation.
+pub fn negated(value: i32) -> i32 {
+    -value
+}
+
+/// b0 b1 b2 b3 on antenna 1 give, on antenna 2: bar b2, b3, b0, bar b1.
+fn block<T: Copy>(bar: fn(T) -> T, b: &[T]) -> [T; 4] {
     [bar(b[2]), b[3], b[0], bar(b[1])]
+}
+
+/// What antenna 2 sends, block by block; one to three entries behind the last whole block are not encoded.
+pub fn encoded<T: Copy>(bar: fn(T) -> T, run: &[T]) -> Vec<T> {
+    let blocks = run.chunks_exact(4);
+    let tail = blocks.remainder();
+    blocks.flat_map(|b| block(bar, b)).chain(tail.iter().copied()).collect()
 }
 
 /// 3 (input: a multiple of 4, 0 included; output: as long as the input), 4 above 2.
@@ -32,10 +53,10 @@ pub fn digits(input: &[u8], n_out: usize) -> Result<Vec<u8>, Refusal> {
             return refuse(4, index);
         }
     }
-    Ok(input.chunks(4).flat_map(block).collect())
+    Ok(encoded(bar, input))
 }
 
-/// Exactly 32 values, each -16 to 16; the bar is negation. 3 (input, output), then 11 at the index.
+/// Exactly 32 values, each -16 to 16. 3 (input, output), then 11 at the index.
 pub fn values(input: &[i32], n_out: usize) -> Result<Vec<i32>, Refusal> {
     if input.len() != VALUES {
         return refuse(3, 0);
@@ -48,7 +69,7 @@ pub fn values(input: &[i32], n_out: usize) -> Result<Vec<i32>, Refusal> {
             return refuse(11, index);
         }
     }
-    Ok(input.chunks(4).flat_map(|b| [-b[2], b[3], b[0], -b[1]]).collect())
+    Ok(encoded(negated, input))
 }
 
 #[cfg(test)]
