@@ -14,8 +14,17 @@ struct aich_row {
 
 WAYS(aich_map, aich_row, r->indicators[i % SETS], r->n_indicators, r->values_out, r->n_values)
 WAYS(aich_read, aich_row, r->values[i % SETS], r->n_values, r->indicators_back, r->n_indicators)
-WAYS(aich_combine, aich_row, r->gains[i % SETS][0], r->gains[i % SETS][1], r->gains[i % SETS][2], r->gains[i % SETS][3],
-     r->received[i % SETS], r->n_values, r->results, r->n_results)
+
+#define COMBINE_ARGUMENTS                                                                               \
+    r->gains[i % SETS][0], r->gains[i % SETS][1], r->gains[i % SETS][2], r->gains[i % SETS][3],         \
+        r->received[i % SETS], r->n_values, r->results, r->n_results
+
+WAYS(aich_combine, aich_row, COMBINE_ARGUMENTS)
+
+/* The library against C that adds all 32 components for each signature: what folding is worth. */
+WAY(by_terms_tight, aich_row, tight_aich_combine_by_terms(COMBINE_ARGUMENTS))
+WAY(by_terms_plain, aich_row, plain_aich_combine_by_terms(COMBINE_ARGUMENTS))
+static const struct ways against_terms = {aich_combine_library, by_terms_tight, by_terms_plain};
 
 static void draw_run(int32_t *s, size_t n, int32_t limit) {
     for (size_t i = 0; i < n; i++) s[i] = draw_value(limit);
@@ -71,6 +80,7 @@ static const struct row ROWS[] = {
     ROW("AICH map", &aich_map, draw_map),
     ROW("AICH read", &aich_read, draw_read),
     ROW("AICH combine", &aich_combine, draw_combine),
+    ROW("AICH combine, C by terms", &against_terms, draw_combine),
 };
 
 void bench_aich(void) {

@@ -39,9 +39,7 @@ uint64_t plain_aich_read(const int32_t *values, size_t n_values, int32_t *indica
     return 0;
 }
 
-uint64_t plain_aich_combine(int64_t h1_re, int64_t h1_im, int64_t h2_re, int64_t h2_im, const int32_t *received,
-                            size_t n_received, int64_t *results, size_t n_results) {
-    int64_t h[4] = {h1_re, h1_im, h2_re, h2_im};
+static uint64_t combine_refusal(const int64_t *h, const int32_t *received, size_t n_received, size_t n_results) {
     if (n_received != VALUES) return refuse(3, 0);
     if (n_results != SIGNATURES) return refuse(3, 1);
     for (size_t i = 0; i < 4; i++) {
@@ -50,8 +48,22 @@ uint64_t plain_aich_combine(int64_t h1_re, int64_t h1_im, int64_t h2_re, int64_t
     for (size_t i = 0; i < VALUES; i++) {
         if (received[i] < -RECEIVED_LIMIT || received[i] > RECEIVED_LIMIT) return refuse(11, 4 + i);
     }
-    if (h1_re == 0 && h1_im == 0 && h2_re == 0 && h2_im == 0) return refuse(12, 0);
-    combine_pairs(h, received, results);
-    transform_wide(results);
+    if (h[0] == 0 && h[1] == 0 && h[2] == 0 && h[3] == 0) return refuse(12, 0);
     return 0;
+}
+
+uint64_t plain_aich_combine(int64_t h1_re, int64_t h1_im, int64_t h2_re, int64_t h2_im, const int32_t *received,
+                            size_t n_received, int64_t *results, size_t n_results) {
+    int64_t h[4] = {h1_re, h1_im, h2_re, h2_im};
+    uint64_t refusal = combine_refusal(h, received, n_received, n_results);
+    if (refusal == 0) correlate(h, received, results);
+    return refusal;
+}
+
+uint64_t plain_aich_combine_by_terms(int64_t h1_re, int64_t h1_im, int64_t h2_re, int64_t h2_im, const int32_t *received,
+                                     size_t n_received, int64_t *results, size_t n_results) {
+    int64_t h[4] = {h1_re, h1_im, h2_re, h2_im};
+    uint64_t refusal = combine_refusal(h, received, n_received, n_results);
+    if (refusal == 0) correlate_by_terms(h, received, results);
+    return refusal;
 }

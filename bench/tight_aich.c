@@ -48,16 +48,28 @@ static inline bool is_gain(int64_t part) {
     return part >= -GAIN_LIMIT && part <= GAIN_LIMIT;
 }
 
+static inline bool combine_takes(const int64_t *h, const int32_t *received, size_t n_received, size_t n_results) {
+    return n_received == VALUES && n_results == SIGNATURES && (is_gain(h[0]) & is_gain(h[1]) & is_gain(h[2]) & is_gain(h[3])) &&
+           !any_outside(received, VALUES, RECEIVED_LIMIT) && (h[0] | h[1] | h[2] | h[3]) != 0;
+}
+
 uint64_t tight_aich_combine(int64_t h1_re, int64_t h1_im, int64_t h2_re, int64_t h2_im, const int32_t *received,
                             size_t n_received, int64_t *results, size_t n_results) {
     int64_t h[4] = {h1_re, h1_im, h2_re, h2_im}, sums[SIGNATURES];
-    if (n_received != VALUES || n_results != SIGNATURES ||
-        !(is_gain(h1_re) & is_gain(h1_im) & is_gain(h2_re) & is_gain(h2_im)) ||
-        any_outside(received, VALUES, RECEIVED_LIMIT) || (h1_re | h1_im | h2_re | h2_im) == 0) {
+    if (!combine_takes(h, received, n_received, n_results)) {
         return plain_aich_combine(h1_re, h1_im, h2_re, h2_im, received, n_received, results, n_results);
     }
-    combine_pairs(h, received, sums);
-    transform_wide(sums);
+    correlate(h, received, sums);
     for (size_t s = 0; s < SIGNATURES; s++) results[s] = sums[s];
+    return 0;
+}
+
+uint64_t tight_aich_combine_by_terms(int64_t h1_re, int64_t h1_im, int64_t h2_re, int64_t h2_im, const int32_t *received,
+                                     size_t n_received, int64_t *results, size_t n_results) {
+    int64_t h[4] = {h1_re, h1_im, h2_re, h2_im};
+    if (!combine_takes(h, received, n_received, n_results)) {
+        return plain_aich_combine_by_terms(h1_re, h1_im, h2_re, h2_im, received, n_received, results, n_results);
+    }
+    correlate_by_terms(h, received, results);
     return 0;
 }

@@ -3,7 +3,9 @@
  *
  * Plain C is written the ordinary way: its loops leave at the first bad digit. Tight C is written as the library is: it asks first
  * whether all is good, by loops with no early way out, which the compiler does many digits at a time, and does its work; where
- * something is wrong it leaves the refusal to plain C, which finds the place. */
+ * something is wrong it leaves the refusal to plain C, which finds the place.
+ *
+ * The combiner stands twice: by folding, as the library does it, and by terms, as the rule has it. */
 #ifndef YARDSTICKS_H
 #define YARDSTICKS_H
 
@@ -31,6 +33,8 @@
     uint64_t whose##_aich_read(const int32_t *values, size_t n_values, int32_t *indicators, size_t n_indicators);               \
     uint64_t whose##_aich_combine(int64_t h1_re, int64_t h1_im, int64_t h2_re, int64_t h2_im, const int32_t *received,          \
                                   size_t n_received, int64_t *results, size_t n_results);                                       \
+    uint64_t whose##_aich_combine_by_terms(int64_t h1_re, int64_t h1_im, int64_t h2_re, int64_t h2_im, const int32_t *received, \
+                                           size_t n_received, int64_t *results, size_t n_results);                              \
     slt_sample whose##_sample_off(int64_t i, int64_t q, size_t antenna);                                                        \
     slt_sample whose##_sample_shared(int64_t i, int64_t q, float level, size_t antenna);                                        \
     slt_sample whose##_sample_each(int64_t i, int64_t q, float first, float second, size_t antenna);

@@ -1,117 +1,152 @@
--- Four foldings are the sums over all signatures. A run y is given by a matrix A over a run x where each y k is the sum over s of A k s · x s.
--- Folding y folds the rows of A; and four foldings of the identity are the signatures: one test over 256 entries, which antt computes.
+-- Four foldings are the sums over all signatures: a run that is folded side by side is one whose halves are folded, its places in another order. So the law of folded runs
+-- (`folds-at` of `signature`) gives these sums too.
 -- Assumes nothing.
-use mathlib.Core.Path.{_≡_, refl, sym, ap, _∙_}
+use mathlib.Core.Path.{_≡_, refl, sym, ap, ap₂, _∙_}
 use mathlib.Core.Bool.{Bool, true, false, cond}
 use mathlib.Core.List.{List}
-use Prim.Native.Nat.{ℕ, _+_, _*_, _/_, _%_, _≤_, _<_, _^_}
+use Prim.Native.Nat.{ℕ, zero, suc, _+_, _*_, _-_, _/_, _%_, _≤_, _<_, _^_}
+use native.Mathlib.Nat.{two-pow-succ, pow-suc, suc-mul, mul-add, add-mul, mul-assoc, mul-left-comm, mul-le-mul-right, not-suc-le-zero, le-of-suc-le-suc}
 use native.Mathlib.Omega.{arith}
-use borrow.Author.Tests.{eq-eqb, ne-eqb}
-use lib.Count.{ones}
-use lib.Dec.{eqb}
+use borrow.Author.Tests.{ltb-true, ltb-false}
+use lib.Dec.{eqb, ltb}
 use lib.ListN.{length, getD, set}
-use lib.IntN.{ℤ, pos, negℤ, _+ℤ_, _-ℤ_, _*ℤ_, zero-*ℤ, *ℤ-comm}
+use lib.IntN.{ℤ, pos, _+ℤ_, _-ℤ_, _*ℤ_}
 use mir.Syntax.{Width}
 use mir.Val.{SFits, hbits, toZ, ofZ}
-use Rattle.run.specs.First.{firstBad, all}
-use Rattle.run.proofs.Passing.{all-every}
+use Rattle.run.specs.Table.{tab}
 use Rattle.run.proofs.Front.{Front, front-length, front-store}
-use Rattle.run.proofs.Table.{tab-length, tab-at, tab-is}
+use Rattle.run.proofs.Table.{tab-length, tab-at, tab-is, tab-same}
 use Rattle.whole.specs.Bound.{Bounded}
-use Rattle.whole.specs.Equal.{eqZ}
-use Rattle.whole.specs.Sum.{sum}
 use Rattle.whole.proofs.Bound.{b-sum, b-diff, b-weaken}
 use Rattle.whole.proofs.Bits.{Reads, r-in, fits-sum, r-sum, fits-diff, r-diff}
-use Rattle.whole.proofs.Equal.{eqZ-true}
-use Rattle.whole.proofs.Laws.{distrib-r, neg-*ℤ, one-*ℤ}
-use Rattle.whole.proofs.Sum.{sum-same, sum-plus, sum-minus, sum-one}
-use Rattle.signature.specs.Rule.{isPlus, sign}
+use Rattle.whole.proofs.Sum.{sum-same}
+use Rattle.signature.specs.Rule.{sign}
+use Rattle.signature.specs.Folding.{paritySum, sums, differences, folds}
+use Rattle.signature.proofs.Signs.{sign-swap}
+use Rattle.signature.proofs.Folding.{folds-low, folds-high, folds-at}
 use Rattle.aich.specs.Rule.{valueAt}
 use Rattle.aich.specs.Method.{Sixteen, foldAt, folded, halfOf}
 use Rattle.aich.proofs.Laws.{entry}
 
--- a row of A over x
-abbrev over : (ℕ → ℕ → ℤ) → (ℕ → ℤ) → ℕ → ℤ
-over A x k = sum 16 (λ (s : ℕ). A k s *ℤ x s)
-
--- the rows folded as a run's entries are
-abbrev foldRows : (ℕ → ℕ → ℤ) → ℕ → ℕ → ℤ
-foldRows A k s = foldAt (λ (i : ℕ). A i s) k
-
-pub record Given (A : ℕ → ℕ → ℤ) (x y : ℕ → ℤ) : Type 0 where
-  pub row : (k : ℕ) → k < 16 → y k ≡ over A x k
-
-less-distrib : (a b c : ℤ) → (a -ℤ b) *ℤ c ≡ a *ℤ c -ℤ b *ℤ c
-less-distrib a b c = distrib-r a (negℤ b) c ∙ ap (λ (z : ℤ). a *ℤ c +ℤ z) (neg-*ℤ b c)
-
-fold-over : (A : ℕ → ℕ → ℤ) (x : ℕ → ℤ) (k : ℕ) → foldAt (over A x) k ≡ over (foldRows A) x k
-unfolding foldAt
-fold-over A x k = side (eqb (k % 2) 0)
-  where
-    side : (b : Bool) → cond b (over A x (k / 2) +ℤ over A x (k / 2 + 8)) (over A x (k / 2) -ℤ over A x (k / 2 + 8))
-        ≡ sum 16 (λ (s : ℕ). cond b (A (k / 2) s +ℤ A (k / 2 + 8) s) (A (k / 2) s -ℤ A (k / 2 + 8) s) *ℤ x s)
-    side true =
-        sym (sum-same 16 (λ s. (A (k / 2) s +ℤ A (k / 2 + 8) s) *ℤ x s) (λ s. A (k / 2) s *ℤ x s +ℤ A (k / 2 + 8) s *ℤ x s) (λ s l. distrib-r (A (k / 2) s) (A (k / 2 + 8) s) (x s))
-        ∙ sum-plus 16 (λ s. A (k / 2) s *ℤ x s) (λ s. A (k / 2 + 8) s *ℤ x s))
-    side false =
-        sym (sum-same 16 (λ s. (A (k / 2) s -ℤ A (k / 2 + 8) s) *ℤ x s) (λ s. A (k / 2) s *ℤ x s -ℤ A (k / 2 + 8) s *ℤ x s) (λ s l. less-distrib (A (k / 2) s) (A (k / 2 + 8) s) (x s))
-        ∙ sum-minus 16 (λ s. A (k / 2) s *ℤ x s) (λ s. A (k / 2 + 8) s *ℤ x s))
-
-fold-same : (x y : ℕ → ℤ) → ((k : ℕ) → k < 16 → x k ≡ y k) → (k : ℕ) → k < 16 → foldAt x k ≡ foldAt y k
-unfolding foldAt
-fold-same x y e k h = rw (e (k / 2) (omega arith), e (k / 2 + 8) (omega arith))
-
--- one folding more
-given-fold : {A : ℕ → ℕ → ℤ} {x y : ℕ → ℤ} → Given A x y → Given (foldRows A) x (foldAt y)
-given-fold {A} {x} {y} g = record { row = λ k h. fold-same y (over A x) (g .row) k h ∙ fold-over A x k }
-
-folded-at : (x : List ℤ) (k : ℕ) → k < 16 → getD (folded x) k (pos 0) ≡ foldAt (entry x) k
-unfolding folded
-folded-at x k h = tab-at 16 (foldAt (entry x)) k (pos 0) h
-
-given-folded : {A : ℕ → ℕ → ℤ} {x : ℕ → ℤ} (y : List ℤ) → Given A x (entry y) → Given (foldRows A) x (entry (folded y))
-given-folded y g = record { row = λ k h. folded-at y k h ∙ given-fold g .row k h }
-
--- the run itself
-identity : ℕ → ℕ → ℤ
-identity k s = cond (eqb k s) (pos 1) (pos 0)
-
-given-self : (x : ℕ → ℤ) → Given identity x x
-unfolding identity
-given-self x =
-    record {
-      row = λ k h.
-          sym (sum-one 16 (λ s. identity k s *ℤ x s) k h (λ s l ne. rw (ne-eqb k s (λ e. ne (sym e))) (zero-*ℤ (x s)))
-          ∙ rw (eq-eqb k k refl) (one-*ℤ (x k)));
-    }
-
-four : ℕ → ℕ → ℤ
-four = foldRows (foldRows (foldRows (foldRows identity)))
-
-four-test : ℕ → ℕ → Bool
-four-test k s = eqZ (four k s) (sign s (2 * k))
-
-row-test : ℕ → Bool
-row-test k = all 16 (four-test k)
-
-all-rows : all 16 row-test ≡ true
-unfolding row-test four-test four identity foldAt firstBad sign isPlus ones
-all-rows = refl
-
-four-sign : (k s : ℕ) → k < 16 → s < 16 → four k s ≡ sign s (2 * k)
-unfolding row-test four-test
-four-sign k s h l =
-    eqZ-true _ _ (all-every 16 (four-test k) (all-every 16 row-test all-rows k h) s l)
+-- ---- one folding
 
 pub folded-length : (x : List ℤ) → length (folded x) ≡ 16
 unfolding folded
 folded-length x = tab-length 16 (foldAt (entry x))
 
+folded-at : (x : List ℤ) (k : ℕ) → k < 16 → entry (folded x) k ≡ foldAt (entry x) k
+unfolding folded
+folded-at x k h = tab-at 16 (foldAt (entry x)) k (pos 0) h
+
+module _ (x : List ℤ) (i : ℕ) (h : i < 8) where
+  even : entry x i +ℤ entry x (i + 8) ≡ entry (folded x) (2 * i)
+  unfolding foldAt
+  even =
+      let r : 2 * i % 2 ≡ 0 = omega arith in
+      let q : 2 * i / 2 ≡ i = omega arith in
+      sym (folded-at x (2 * i) (omega arith) ∙ rw (r, q))
+
+  odd : entry x i -ℤ entry x (i + 8) ≡ entry (folded x) (2 * i + 1)
+  unfolding foldAt
+  odd =
+      let r : (2 * i + 1) % 2 ≡ 1 = omega arith in
+      let q : (2 * i + 1) / 2 ≡ i = omega arith in
+      sym (folded-at x (2 * i + 1) (omega arith) ∙ rw (r, q))
+
+-- ---- four foldings
+
+foldings : ℕ → List ℤ → List ℤ
+foldings zero x = x
+foldings (suc j) x = foldings j (folded x)
+
+-- every w-th entry from i on, 2^j of them
+spread : ℕ → ℕ → ℕ → List ℤ → List ℤ
+spread j w i x = tab (2 ^ j) (λ (a : ℕ). entry x (a * w + i))
+
+spread-at : (j w i : ℕ) (x : List ℤ) (a : ℕ) → a < 2 ^ j → entry (spread j w i x) a ≡ entry x (a * w + i)
+unfolding spread
+spread-at j w i x a h = tab-at (2 ^ j) (λ (b : ℕ). entry x (b * w + i)) a (pos 0) h
+
+-- half of a run of sixteen is 2^j entries, w apart
+module _ (j w i : ℕ) (x : List ℤ) (all : 2 ^ j * w ≡ 8) (l : i < w) where
+  module _ (a : ℕ) (h : a < 2 ^ j) where
+    place : a * w + i < 8
+    place = omega (arith, suc-mul a w, mul-le-mul-right w h)
+
+    upper : (2 ^ j + a) * w + i ≡ a * w + i + 8
+    upper = omega (arith, add-mul (2 ^ j) a w)
+
+    wide : a * (2 * w) + 2 * i ≡ 2 * (a * w + i)
+    wide = omega (arith, mul-left-comm a 2 w)
+
+    lower-is : entry (spread (suc j) w i x) a ≡ entry x (a * w + i)
+    lower-is = spread-at (suc j) w i x a (omega (arith, two-pow-succ j))
+
+    upper-is : entry (spread (suc j) w i x) (2 ^ j + a) ≡ entry x (a * w + i + 8)
+    upper-is = spread-at (suc j) w i x (2 ^ j + a) (omega (arith, two-pow-succ j)) ∙ ap (entry x) upper
+
+  -- what is folded side by side has the sums of the halves at even places, and the differences at odd ones
+  even-spread : sums (2 ^ j) (spread (suc j) w i x) ≡ spread j (2 * w) (2 * i) (folded x)
+  unfolding sums spread
+  even-spread =
+      tab-same (2 ^ j) _ _ (λ a h. rw (lower-is a h, upper-is a h, wide a h) (even x (a * w + i) (place a h)))
+
+  odd-spread : differences (2 ^ j) (spread (suc j) w i x) ≡ spread j (2 * w) (2 * i + 1) (folded x)
+  unfolding differences spread
+  odd-spread =
+      tab-same (2 ^ j) _ _
+      (λ a h.
+      let is : a * (2 * w) + (2 * i + 1) ≡ 2 * (a * w + i) + 1 = omega (arith, wide a h) in
+      rw (lower-is a h, upper-is a h, is) (odd x (a * w + i) (place a h)))
+
+-- one folding more
+module _ (j w i : ℕ) (x : List ℤ) (all : 2 ^ suc j * w ≡ 16) (l : i < w)
+    (below : (i : ℕ) (s : ℕ) → i < 2 * w → s < 2 ^ j → entry (foldings j (folded x)) (i * 2 ^ j + s) ≡ entry (folds j (spread j (2 * w) i (folded x))) s) where
+  half : 2 ^ j * w ≡ 8
+  half = omega (arith, all, ap (λ (m : ℕ). m * w) (two-pow-succ j) ∙ add-mul (2 ^ j) (2 ^ j) w)
+
+  twice : i * 2 ^ suc j ≡ 2 * (i * 2 ^ j)
+  twice = omega (arith, ap (λ (m : ℕ). i * m) (two-pow-succ j) ∙ mul-add i (2 ^ j) (2 ^ j))
+
+  sums-place : (s : ℕ) → s < 2 ^ j → entry (foldings j (folded x)) (i * 2 ^ suc j + s) ≡ entry (folds (suc j) (spread (suc j) w i x)) s
+  sums-place s h =
+      let is : i * 2 ^ suc j + s ≡ 2 * i * 2 ^ j + s = omega (arith, twice, mul-assoc 2 i (2 ^ j)) in
+      rw is (below (2 * i) s (omega arith) h)
+      ∙ sym (folds-low j (spread (suc j) w i x) s h ∙ ap (λ (y : List ℤ). entry (folds j y) s) (even-spread j w i x half l))
+
+  differences-place : (s : ℕ) → s < 2 ^ j → entry (foldings j (folded x)) (i * 2 ^ suc j + (2 ^ j + s)) ≡ entry (folds (suc j) (spread (suc j) w i x)) (2 ^ j + s)
+  differences-place s h =
+      let is : i * 2 ^ suc j + (2 ^ j + s) ≡ (2 * i + 1) * 2 ^ j + s = omega (arith, twice, mul-assoc 2 i (2 ^ j), add-mul (2 * i) 1 (2 ^ j)) in
+      rw is (below (2 * i + 1) s (omega arith) h)
+      ∙ sym (folds-high j (spread (suc j) w i x) s ∙ ap (λ (y : List ℤ). entry (folds j y) s) (odd-spread j w i x half l))
+
+  one-more : (s : ℕ) → s < 2 ^ suc j → entry (foldings j (folded x)) (i * 2 ^ suc j + s) ≡ entry (folds (suc j) (spread (suc j) w i x)) s
+  one-more s h = side (ltb s (2 ^ j)) refl
+    where
+      side : (b : Bool) → ltb s (2 ^ j) ≡ b → entry (foldings j (folded x)) (i * 2 ^ suc j + s) ≡ entry (folds (suc j) (spread (suc j) w i x)) s
+      side true e = sums-place s (ltb-true s (2 ^ j) e)
+      side false e =
+          let is : 2 ^ j + (s - 2 ^ j) ≡ s = omega (arith, ltb-false s (2 ^ j) e) in
+          rw is at (differences-place (s - 2 ^ j) (omega (arith, two-pow-succ j, ltb-false s (2 ^ j) e)))
+
+-- after j foldings place i * 2^j + s has what folding leaves at place s of the entries from i on, w apart
+beside : (j w i : ℕ) (x : List ℤ) (s : ℕ) → 2 ^ j * w ≡ 16 → i < w → s < 2 ^ j → entry (foldings j x) (i * 2 ^ j + s) ≡ entry (folds j (spread j w i x)) s
+unfolding foldings folds
+beside zero w i x zero all l h = let is : i * 1 + 0 ≡ 0 * w + i = omega arith in ap (entry x) is ∙ sym (spread-at 0 w i x 0 h)
+beside zero w i x (suc s) all l h = absurd (not-suc-le-zero (le-of-suc-le-suc h))
+beside (suc j) w i x s all l h =
+    one-more j w i x all l (λ k t m g. beside j (2 * w) k (folded x) t (sym (mul-assoc (2 ^ j) 2 w) ∙ ap (λ (n : ℕ). n * w) (sym (pow-suc 2 j)) ∙ all) m g) s h
+
 four-at : (x : List ℤ) (k : ℕ) → k < 16 → getD (folded (folded (folded (folded x)))) k (pos 0) ≡ valueAt x (2 * k)
-unfolding four valueAt
+unfolding foldings paritySum valueAt
 four-at x k h =
-    given-folded _ (given-folded _ (given-folded _ (given-folded x (given-self (entry x))))) .row k h
-    ∙ sum-same 16 _ (λ s. entry x s *ℤ sign s (2 * k)) (λ s l. ap (λ (z : ℤ). z *ℤ entry x s) (four-sign k s h l) ∙ *ℤ-comm (sign s (2 * k)) (entry x s))
+    let front : 0 + k ≡ k = omega arith in
+    rw front at (beside 4 1 0 x k refl (omega arith) h)
+    ∙ folds-at 4 (spread 4 1 0 x) k h
+    ∙ sum-same 16 _ (λ s. entry x s *ℤ sign s (2 * k))
+    (λ s l.
+    let is : s * 1 + 0 ≡ s = omega arith in
+    ap₂ (λ (y z : ℤ). y *ℤ z) (spread-at 4 1 0 x s l ∙ ap (entry x) is) (sign-swap k s))
 
 pub four-folds : (x : List ℤ) → folded (folded (folded (folded x))) ≡ halfOf x
 unfolding halfOf
@@ -134,7 +169,7 @@ folded-small {B} {x} p =
 pub sixteen-weaken : {A B : ℕ} {x : List ℤ} → A ≤ B → Sixteen A x → Sixteen B x
 sixteen-weaken l p = record { long = p .long; small = λ k h. b-weaken l (p .small k h) }
 
--- ---- one turn of the loop that folds, at either width: entries i and i + 8 are read, and their sum and difference stored
+-- ---- one turn of the loop that folds, at any width: entries i and i + 8 are read, and their sum and difference stored
 module _ (w : Width) (x : List ℤ) (B i : ℕ) (p : Sixteen B x) (room : B + B < 2 ^ hbits w) (h : i < 8) where
   first : Reads w (ofZ w (entry x i)) (entry x i) B
   first = r-in (p .small i (omega arith)) (omega arith)
@@ -148,20 +183,6 @@ module _ (w : Width) (x : List ℤ) (B i : ℕ) (p : Sixteen B x) (room : B + B 
   pub turn-diff : SFits w (toZ w (ofZ w (entry x i)) -ℤ toZ w (ofZ w (entry x (i + 8))))
   turn-diff = fits-diff first second room
 
-  even : entry x i +ℤ entry x (i + 8) ≡ entry (folded x) (2 * i)
-  unfolding foldAt
-  even =
-      let r : 2 * i % 2 ≡ 0 = omega arith in
-      let q : 2 * i / 2 ≡ i = omega arith in
-      sym (folded-at x (2 * i) (omega arith) ∙ rw (r, q))
-
-  odd : entry x i -ℤ entry x (i + 8) ≡ entry (folded x) (2 * i + 1)
-  unfolding foldAt
-  odd =
-      let r : (2 * i + 1) % 2 ≡ 1 = omega arith in
-      let q : (2 * i + 1) / 2 ≡ i = omega arith in
-      sym (folded-at x (2 * i + 1) (omega arith) ∙ rw (r, q))
-
   -- both stored: the front is two entries longer
   pub turn-front : (d₀ d : List ℤ) → length d₀ ≡ 16 → Front (folded x) d₀ d (2 * i)
       → Front (folded x) d₀
@@ -170,7 +191,7 @@ module _ (w : Width) (x : List ℤ) (B i : ℕ) (p : Sixteen B x) (room : B + B 
       (2 * (i + 1))
   turn-front d₀ d e f =
       let l = front-length f in
-      let one = front-store (pos 0) f (omega arith) (r-sum first second room .is ∙ even) in
+      let one = front-store (pos 0) f (omega arith) (r-sum first second room .is ∙ even x i h) in
       let m = front-length one in
       let next : 2 * i + 1 + 1 ≡ 2 * (i + 1) = omega arith in
-      rw (← next) (front-store (pos 0) one (omega arith) (r-diff first second room .is ∙ odd))
+      rw (← next) (front-store (pos 0) one (omega arith) (r-diff first second room .is ∙ odd x i h))

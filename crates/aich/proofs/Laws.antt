@@ -7,7 +7,7 @@ use Prim.Native.Nat.{ℕ, zero, suc, _+_, _*_, _/_, _<_}
 use native.Mathlib.Omega.{arith}
 use borrow.Author.Tests.{eq-eqb, ne-eqb}
 use lib.Dec.{eqb}
-use lib.ListN.{length, getD}
+use lib.ListN.{length}
 use lib.IntN.{ℤ, pos, negsuc, negℤ, _+ℤ_, _*ℤ_, *ℤ-zero}
 use lib.Signed.{ltZ}
 use Rattle.run.proofs.Table.{tab-length, tab-at}
@@ -22,9 +22,7 @@ use Rattle.signature.specs.Rule.{sign}
 use Rattle.aich.specs.Rule.{valueAt, valuesOf, correlation, unit, indicatorsIn}
 use Rattle.aich.specs.Method.{halfOf, firsts, signOf, fits16}
 use Rattle.signature.proofs.Signs.{sign-small, sign-half, sign-second, sign-swap, half-dot}
-
-abbrev pub entry : List ℤ → ℕ → ℤ
-entry x k = getD x k (pos 0)
+pub use Rattle.signature.proofs.Folding.{entry}
 
 -- ---- one sum for each pair
 

@@ -1,5 +1,6 @@
 pub mod Algebra
 pub mod Sizes
 pub mod Typed
+pub mod Folding
 pub mod Pairs
 pub mod Combining

@@ -1,11 +1,13 @@
 // The AICH combiner's numbers: docs/RULES.md, 'Combiner'. Gains of 16 bits and parts of 32 cannot overflow sums of 64, so nothing is asked of either.
 ghost use mathlib.Core.Path.{_≡_};
+ghost use mathlib.Core.List.{_++_};
 ghost use Prim.Native.Nat.{_<_};
 ghost use lib.ListN.{length};
-ghost use Rattle.aich.specs.Method.{Sixteen, folded};
+ghost use lib.IntN.{_+ℤ_};
+ghost use Rattle.signature.specs.Folding.{sums, differences, folds};
 ghost use Rattle.correlator.specs.Complexes.{cx, _⊞_, _⊟_, _⊠_, conj};
 ghost use Rattle.correlator.specs.Rule.{symbol, t1, t2, combined, numbersOf};
-ghost use Rattle.correlator.specs.Method.{Small, Parts, pairSums, correlations};
+ghost use Rattle.correlator.specs.Method.{Small, Parts, pairSums, depth, Room, Halves};
 
 // A complex whole number.
 pub struct Complex {
@@ -85,72 +87,62 @@ fn symbol(s: &[i32], k: usize) -> Complex
     Complex { re, im }
 }
 
-// The 32 real components of T, pair by pair.
-fn combined(h1: Complex, h2: Complex, received: &[i32]) -> [i64; 32]
-    requires { ⌜ Small 32768 h1 × Small 32768 h2 × Parts 2147483648 (now received) ⌝ }
-    ensures { λ r. ⌜ r ≡ combined h1 h2 (now (received .entry)) ⌝ }
+// The two components of a symbol of T are neighbours, with the same sign in every signature: they are added once.
+fn neighbours(t: Complex) -> i64
+    requires { ⌜ Small 281474976710656 t ⌝ }
+    ensures { λ r. ⌜ r ≡ t .re +ℤ t .im ⌝ }
 {
-    let mut t = [0i64; 32];
+    t.re + t.im
+}
+
+// The sums of neighbours, two symbols at a time.
+fn pair_sums(h1: Complex, h2: Complex, received: &[i32]) -> [i64; 16]
+    requires { ⌜ Small 32768 h1 × Small 32768 h2 × Parts 2147483648 (now received) ⌝ }
+    ensures { λ r. ⌜ r ≡ pairSums (combined h1 h2 (now (received .entry))) ⌝ }
+{
+    let mut sums = [0i64; 16];
     let mut m = 0;
     while m < 8 {
         let r1 = symbol(received, 2 * m);
         let r2 = symbol(received, 2 * m + 1);
-        let first = first_of(h1, h2, r1, r2);
-        let second = second_of(h1, h2, r1, r2);
-        let a = first.re;
-        let b = first.im;
-        let c = second.re;
-        let d = second.im;
-        t[4 * m] = a;
-        t[4 * m + 1] = b;
-        t[4 * m + 2] = c;
-        t[4 * m + 3] = d;
+        let first = neighbours(first_of(h1, h2, r1, r2));
+        let second = neighbours(second_of(h1, h2, r1, r2));
+        sums[2 * m] = first;
+        sums[2 * m + 1] = second;
         m += 1;
-    }
-    t
-}
-
-// Two components at a time: both have the same sign in every signature.
-fn pair_sums(t: &[i64]) -> [i64; 16]
-    requires { ⌜ Parts 281474976710656 (now t) ⌝ }
-    ensures { λ r. ⌜ r ≡ pairSums (now (t .entry)) ⌝ }
-{
-    let mut sums = [0i64; 16];
-    let mut j = 0;
-    while j < 32 {
-        sums[j / 2] = sums[j / 2] + t[j];
-        j += 1;
     }
     sums
 }
 
-// Entries i and i + 8 become their sum and their difference, side by side.
-fn fold(x: &[i64]) -> [i64; 16]
-    requires { ⌜ Sixteen 4503599627370496 (now x) ⌝ }
-    ensures { λ r. ⌜ r ≡ folded (now (x .entry)) ⌝ }
+// Entries k and h + k become their sum and their difference.
+fn level(s: &mut [i64], h: usize)
+    requires { ⌜ Halves h (now s) ⌝ }
+    ensures { λ _. ⌜ now (s .exit) ≡ sums h (now (s .entry)) ++ differences h (now (s .entry)) ⌝ }
 {
-    let mut y = [0i64; 16];
-    let mut i = 0;
-    while i < 8 {
-        let a = x[i];
-        let b = x[i + 8];
-        y[2 * i] = a + b;
-        y[2 * i + 1] = a - b;
-        i += 1;
+    let mut k = 0;
+    while k < h {
+        let x = s[k];
+        let y = s[h + k];
+        s[k] = x + y;
+        s[h + k] = x - y;
+        k += 1;
     }
-    y
 }
 
-// The correlation with each signature: four foldings are the sums over all of them.
-fn correlate(t: &[i64]) -> [i64; 16]
-    requires { ⌜ Parts 281474976710656 (now t) ⌝ }
-    ensures { λ r. ⌜ r ≡ correlations (now (t .entry)) ⌝ }
+// Halves the run and folds each half again, until a half is one number: a call for each of those would be half of all calls. Calls are nested as deep as the
+// logarithm of the length.
+fn fold(s: &mut [i64])
+    requires { ⌜ Room (now s) ⌝ }
+    ensures { λ _. ⌜ now (s .exit) ≡ folds (depth (now (s .entry))) (now (s .entry)) ⌝ }
 {
-    let sums = pair_sums(t);
-    let once = fold(&sums);
-    let twice = fold(&once);
-    let thrice = fold(&twice);
-    fold(&thrice)
+    let h = s.len() / 2;
+    if 0 < h {
+        level(s, h);
+        if 1 < h {
+            fold(&mut s[..h]);
+            fold(&mut s[h..h + h]);
+        }
+    }
 }
 
 // A gain of two parts of 16 bits.
@@ -169,6 +161,7 @@ pub fn numbers(h1_re: i16, h1_im: i16, h2_re: i16, h2_im: i16, received: [i32; 3
 {
     let h1 = gain(h1_re, h1_im);
     let h2 = gain(h2_re, h2_im);
-    let t = combined(h1, h2, &received);
-    correlate(&t)
+    let mut sums = pair_sums(h1, h2, &received);
+    fold(&mut sums);
+    sums
 }

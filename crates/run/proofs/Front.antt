@@ -7,7 +7,7 @@ use native.Mathlib.Nat.{not-suc-le-zero, le-of-suc-le-suc}
 use native.Mathlib.Numerals.{add-one}
 use native.Mathlib.Omega.{arith}
 use lib.ListN.{length, getD, set, take, drop, replicate, take-append-drop, drop-of-length-le, length-append, length-take, length-drop}
-use lib.Seq.{take-at, drop-at, take-add, length-take-le}
+use lib.Seq.{take-at, drop-at, take-add, length-take-le, getD-drop, getD-append-add}
 use borrow.Rule.Slice.PartMut.{putMid, midOf, post-is, mid-len}
 use Rattle.run.specs.Written.{over}
 use Rattle.run.proofs.Over.{over-part}
@@ -35,6 +35,17 @@ module _ {A : Type 0} where
       let e = f .sized in
       let w = f .within in
       ap length (f .is) ∙ simp (length-append, length-take, length-drop) (omega arith)
+
+  -- behind the front is what was there
+  pub front-next : {t d₀ d : List A} {a : ℕ} (z : A) → Front t d₀ d a → a < length d₀ → getD d a z ≡ getD d₀ a z
+  front-next {t} {d₀} {d} {a} z f h =
+      let s = f .sized in
+      let n : length (take a t) ≡ a = length-take-le a t (omega arith) in
+      let end : a + 0 ≡ a = omega arith in
+      ap (λ (l : List A). getD l a z) (f .is)
+      ∙ rw (n, end) at (getD-append-add (take a t) (drop a d₀) 0 z)
+      ∙ getD-drop a d₀ 0 z
+      ∙ ap (λ (i : ℕ). getD d₀ i z) end
 
   -- one entry more
   pub front-store : {t d₀ d : List A} {i : ℕ} {v : A} (z : A) → Front t d₀ d i → i < length d → v ≡ getD t i z → Front t d₀ (set d i v) (i + 1)

@@ -3,10 +3,10 @@
 use mathlib.Core.Path.{_≡_, refl, sym, _∙_, subst}
 use mathlib.Core.Logic.{⊎-elim}
 use Prim.Native.Nat.{ℕ, zero, suc, _+_, _*_, _<_}
-use native.Mathlib.Nat.{le-refl, le-of-suc-le-suc, eq-or-lt-of-le, not-suc-le-zero, lt-irrefl}
+use native.Mathlib.Nat.{add-zero, add-suc, le-refl, le-of-suc-le-suc, eq-or-lt-of-le, not-suc-le-zero, lt-irrefl}
 use native.Mathlib.Omega.{arith}
 use native.Mathlib.Numerals.{add-one}
-use lib.IntN.{ℤ, pos, negℤ, _+ℤ_, _-ℤ_, _*ℤ_, +ℤ-idl, +ℤ-idr, zero-*ℤ, *ℤ-zero, negℤ-+ℤ}
+use lib.IntN.{ℤ, pos, negℤ, _+ℤ_, _-ℤ_, _*ℤ_, +ℤ-assoc, +ℤ-idl, +ℤ-idr, zero-*ℤ, *ℤ-zero, negℤ-+ℤ}
 use Rattle.whole.specs.Sum.{sum}
 use Rattle.whole.specs.Bound.{Bounded}
 use Rattle.whole.proofs.Laws.{summands, distrib-r, distrib-l}
@@ -69,6 +69,12 @@ sum-one (suc n) f t l h =
     rw (sum-one n f t k (λ i m ne. h i (omega arith) ne), h n (le-refl (suc n)) (λ q. lt-irrefl t (subst (λ (m : ℕ). t < m) q k)))
     (+ℤ-idr (f t)))
     (eq-or-lt-of-le (le-of-suc-le-suc l))
+
+-- a front of m terms, and the n behind it
+pub sum-join : (m n : ℕ) (f : ℕ → ℤ) → sum (m + n) f ≡ sum m f +ℤ sum n (λ k. f (m + k))
+unfolding sum
+sum-join m zero f = rw add-zero (sym (+ℤ-idr (sum m f)))
+sum-join m (suc n) f = rw (add-suc, sum-join m n f) (+ℤ-assoc (sum m f) (sum n (λ k. f (m + k))) (f (m + n)))
 
 -- two terms at a time
 pub sum-pairs : (n : ℕ) (f : ℕ → ℤ) → sum (2 * n) f ≡ sum n (λ k. f (2 * k) +ℤ f (2 * k + 1))

@@ -1,15 +1,18 @@
 -- `correlator::numbers` meets its contract: the types of its parameters bound them, and nothing else is asked.
 -- Assumes nothing.
 use mathlib.Core.Path.{_≡_, ap, _∙_}
+use mathlib.Core.List.{List}
 use lib.IntN.{ℤ}
 use mir.Syntax.{w16}
 use mir.Val.{SFits, toZ, ofZ}
 use mir.Facts.{toZ-ofZ}
+use Rattle.signature.specs.Folding.{folds}
 use Rattle.correlator.specs.declared.Complex.{Complex}
 use Rattle.correlator.specs.Complexes.{cx}
 use Rattle.correlator.specs.Rule.{combined}
-use Rattle.correlator.specs.Method.{Small, Parts, correlations}
+use Rattle.correlator.specs.Method.{Small, Parts, pairSums, depth}
 use Rattle.correlator.proofs.Typed.{gain-small, parts-small}
+use Rattle.correlator.proofs.Pairs.{pairs-room}
 use Rattle.correlator.proofs.Combining.{combined-small, numbers-are}
 use borrow.Author.Needs.{needs}
 use Rattle.correlator.proofs.numbers.Statement.{statement}
@@ -41,26 +44,28 @@ gain-requires c κs = search needs
 gain-requires-2 : tie.Need-gain-requires-2
 gain-requires-2 c κs = search needs
 
-slice-aggregate-combined : tie.Need-slice-aggregate-combined
-slice-aggregate-combined c = search needs
+slice-aggregate-pair-sums : tie.Need-slice-aggregate-pair-sums
+slice-aggregate-pair-sums c = search needs
 
-combined-requires : tie.Need-combined-requires
-combined-requires c κs = bounds (c .before)
+pair-sums-requires : tie.Need-pair-sums-requires
+pair-sums-requires c κs = bounds (c .before)
 
-slice-aggregate-correlate : tie.Need-slice-aggregate-correlate
-slice-aggregate-correlate c = search needs
+slice-aggregate-fold : tie.Need-slice-aggregate-fold
+slice-aggregate-fold c = search needs
 
-correlate-requires : tie.Need-correlate-requires
-correlate-requires c κs =
+fold-requires : tie.Need-fold-requires
+fold-requires c κs =
     let s = bounds (c .before .before .before) in
-    rw (c .before .combined .ensures) (combined-small _ _ _ (s .0) (s .1) (s .2))
+    rw (c .before .pair-sums .ensures) (pairs-room _ (combined-small _ _ _ (s .0) (s .1) (s .2)))
 
 returns : tie.Need-returns
 returns c =
-    let two = c .before .before .before .before in
+    let sums = c .before .before .before in
+    let two = sums .before .before in
     let received = two .before .before .args .t5 in
-    c .correlate .ensures ∙ ap correlations (c .before .before .combined .ensures)
-    ∙ (λ i. correlations (combined (h1-is two i) (h2-is two i) received)) ∙ numbers-are _ _ _
+    c .before .fold .ensures ∙ ap (λ (y : List ℤ). folds (depth y) y) (sums .pair-sums .ensures)
+    ∙ (λ i. folds (depth (pairSums (combined (h1-is two i) (h2-is two i) received))) (pairSums (combined (h1-is two i) (h2-is two i) received)))
+    ∙ numbers-are _ _ _
 
 pub numbers-spec : {M : Type 1} → statement M
 numbers-spec =
@@ -68,8 +73,8 @@ numbers-spec =
     (tie.spec
     gain-requires
     gain-requires-2
-    slice-aggregate-combined
-    combined-requires
-    slice-aggregate-correlate
-    correlate-requires
+    slice-aggregate-pair-sums
+    pair-sums-requires
+    slice-aggregate-fold
+    fold-requires
     returns)
