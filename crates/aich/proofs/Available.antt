@@ -14,7 +14,7 @@ use Rattle.run.specs.First.{firstBad, Every}
 use Rattle.run.specs.Refusals.{signatureRefused}
 use Rattle.run.specs.Verdicts.{refused, done, orElse, leaves}
 use Rattle.run.proofs.First.{first-below, first-fails, none-first, every-by}
-use Rattle.run.proofs.Chain.{or-else-done, or-else-next, or-else-refused, or-else-pass, or-else-plain, or-else-last, unless-plain, each-plain, each-done, each-pass, each-stops, each-told, leaves-done, leaves-refused, one-outcome}
+use Rattle.run.proofs.Chain.{or-else-done, or-else-next, or-else-refused, or-else-pass, or-else-plain, or-else-last, unless-plain, each-plain, each-done, each-pass, each-stops, each-told, leaves-done, leaves-refused, one-outcome, number-0}
 use Rattle.run.proofs.Table.{tab-is}
 use Rattle.whole.specs.Equal.{eqZ}
 use Rattle.whole.proofs.Equal.{eqZ-true, eq-eqZ}
@@ -25,7 +25,7 @@ use Rattle.aich.specs.Exact.{Gives}
 use Rattle.aich.specs.Available.{Zero, SetIs, GivesUnder, AvailableExact, AllAvailable, Within, LargerSet, AvailableOnce}
 use Rattle.aich.proofs.Laws.{indicators-length, indicator-small, unit-sign}
 use Rattle.aich.proofs.Checks.{accepted}
-use Rattle.aich.proofs.Exact.{number-0, read-exact}
+use Rattle.aich.proofs.Exact.{read-exact}
 
 -- ---- the check of the set
 

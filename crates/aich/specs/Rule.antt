@@ -1,4 +1,4 @@
--- docs/RULES.md, 'AICH'; TS 25.211, 5.3.3.7: the values that indicators give, and the indicators of values.
+-- docs/RULES.md, 'AICH'; TS 25.211, 5.3.3.7: the values that indicators give, the indicators of values, and what a set of available signatures allows.
 -- Assumes nothing.
 use Prim.Native.Nat.{ℕ, _/_, _%_, _^_}
 use mathlib.Core.Bool.{Bool, cond, _||_}
