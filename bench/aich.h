@@ -27,6 +27,15 @@ enum { SIGNATURES = 16, VALUES = 32, GAIN_LIMIT = 4096, RECEIVED_LIMIT = 1048576
 ROUNDS(int32_t, fold, transform)
 ROUNDS(int64_t, fold_wide, transform_wide)
 
+/* The values of indicators: the sum of each pair. */
+static inline void write_pairs(int32_t *indicators, int32_t *values) {
+    transform(indicators);
+    for (size_t k = 0; k < SIGNATURES; k++) {
+        values[2 * k] = indicators[k];
+        values[2 * k + 1] = indicators[k];
+    }
+}
+
 /* The four components of two symbols of T. */
 static inline void combine_pair(const int64_t *h, const int32_t *received, int64_t *t) {
     int64_t r1_re = received[0], r1_im = received[1], r2_re = received[2], r2_im = received[3];

@@ -8,11 +8,26 @@ uint64_t tight_aich_map(const int32_t *indicators, size_t n_indicators, int32_t 
         return plain_aich_map(indicators, n_indicators, values, n_values);
     }
     for (size_t s = 0; s < SIGNATURES; s++) sums[s] = indicators[s];
-    transform(sums);
-    for (size_t k = 0; k < SIGNATURES; k++) {
-        values[2 * k] = sums[k];
-        values[2 * k + 1] = sums[k];
+    write_pairs(sums, values);
+    return 0;
+}
+
+/* Whether some number is not 0 though its signature is not available. */
+static inline bool any_stray(uint16_t available, const int32_t *s) {
+    int32_t stray = 0;
+    for (size_t i = 0; i < SIGNATURES; i++) stray |= (available & 1u << i) == 0 ? s[i] : 0;
+    return stray;
+}
+
+uint64_t tight_aich_map_available(uint16_t available, const int32_t *indicators, size_t n_indicators, int32_t *values,
+                                  size_t n_values) {
+    int32_t sums[SIGNATURES];
+    if (n_indicators != SIGNATURES || n_values != VALUES || any_outside(indicators, SIGNATURES, 1) ||
+        any_stray(available, indicators)) {
+        return plain_aich_map_available(available, indicators, n_indicators, values, n_values);
     }
+    for (size_t s = 0; s < SIGNATURES; s++) sums[s] = indicators[s];
+    write_pairs(sums, values);
     return 0;
 }
 
@@ -33,13 +48,28 @@ static inline bool any_between(const int32_t *sums) {
     return between;
 }
 
-uint64_t tight_aich_read(const int32_t *values, size_t n_values, int32_t *indicators, size_t n_indicators) {
-    int32_t sums[SIGNATURES];
+/* Finds the sums; whether they are of values that some indicators give. */
+static inline bool finds_sums(const int32_t *values, size_t n_values, size_t n_indicators, int32_t *sums) {
     if (n_values != VALUES || n_indicators != SIGNATURES || any_unlike(values, sums) || any_outside(sums, SIGNATURES, 16)) {
-        return plain_aich_read(values, n_values, indicators, n_indicators);
+        return false;
     }
     transform(sums);
-    if (any_between(sums)) return plain_aich_read(values, n_values, indicators, n_indicators);
+    return !any_between(sums);
+}
+
+uint64_t tight_aich_read(const int32_t *values, size_t n_values, int32_t *indicators, size_t n_indicators) {
+    int32_t sums[SIGNATURES];
+    if (!finds_sums(values, n_values, n_indicators, sums)) return plain_aich_read(values, n_values, indicators, n_indicators);
+    for (size_t s = 0; s < SIGNATURES; s++) indicators[s] = (sums[s] > 0) - (sums[s] < 0);
+    return 0;
+}
+
+uint64_t tight_aich_read_available(uint16_t available, const int32_t *values, size_t n_values, int32_t *indicators,
+                                   size_t n_indicators) {
+    int32_t sums[SIGNATURES];
+    if (!finds_sums(values, n_values, n_indicators, sums) || any_stray(available, sums)) {
+        return plain_aich_read_available(available, values, n_values, indicators, n_indicators);
+    }
     for (size_t s = 0; s < SIGNATURES; s++) indicators[s] = (sums[s] > 0) - (sums[s] < 0);
     return 0;
 }

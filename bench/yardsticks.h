@@ -31,6 +31,10 @@
     uint64_t whose##_sttd_values(const int32_t *input, size_t n_input, int32_t *out, size_t n_out);                             \
     uint64_t whose##_aich_map(const int32_t *indicators, size_t n_indicators, int32_t *values, size_t n_values);                \
     uint64_t whose##_aich_read(const int32_t *values, size_t n_values, int32_t *indicators, size_t n_indicators);               \
+    uint64_t whose##_aich_map_available(uint16_t available, const int32_t *indicators, size_t n_indicators,                     \
+                                        int32_t *values, size_t n_values);                                                      \
+    uint64_t whose##_aich_read_available(uint16_t available, const int32_t *values, size_t n_values,                            \
+                                         int32_t *indicators, size_t n_indicators);                                             \
     uint64_t whose##_aich_combine(int64_t h1_re, int64_t h1_im, int64_t h2_re, int64_t h2_im, const int32_t *received,          \
                                   size_t n_received, int64_t *results, size_t n_results);                                       \
     uint64_t whose##_aich_combine_by_terms(int64_t h1_re, int64_t h1_im, int64_t h2_re, int64_t h2_im, const int32_t *received, \

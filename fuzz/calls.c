@@ -90,6 +90,14 @@ static void aich_read(struct test *t) {
     t->got = slt_aich_read(values(t, 0), n(t, 0), values(t, 1), n(t, 1));
 }
 
+static void aich_map_available(struct test *t) {
+    t->got = slt_aich_map_available((uint16_t)t->given[0], values(t, 0), n(t, 0), values(t, 1), n(t, 1));
+}
+
+static void aich_read_available(struct test *t) {
+    t->got = slt_aich_read_available((uint16_t)t->given[0], values(t, 0), n(t, 0), values(t, 1), n(t, 1));
+}
+
 static void aich_combine(struct test *t) {
     int64_t *results = (int64_t *)(void *)t->run[1].lent;
     t->got = slt_aich_combine(whole(t, 0), whole(t, 1), whole(t, 2), whole(t, 3), values(t, 0), n(t, 0), results, n(t, 1));
@@ -121,6 +129,8 @@ const struct call calls[] = {
     {"slt_pccpch_read", 0, "111", pccpch_read},
     {"slt_aich_map", 0, "44", aich_map},
     {"slt_aich_read", 0, "44", aich_read},
+    {"slt_aich_map_available", 1, "44", aich_map_available},
+    {"slt_aich_read_available", 1, "44", aich_read_available},
     {"slt_aich_combine", 4, "48", aich_combine},
     {"slt_sample_off", 3, "", sample_off},
     {"slt_sample_shared", 4, "", sample_shared},

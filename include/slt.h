@@ -54,6 +54,9 @@ extern "C" {
 #define SLT_REFUSED_ENDS_EARLY 24u  /* the file ends early, in its header or in a record */
 #define SLT_REFUSED_BYTES_AFTER 25u /* bytes after the last record */
 
+/* Of the calls under a set of available signatures. */
+#define SLT_REFUSED_SIGNATURE 26u /* a nonzero indicator of a signature that is not available; the place is the lowest */
+
 /* PICH (TS 25.211, 5.3.3.10). np is 18, 36, 72 or 144. */
 
 /* The paging indicator q of a higher-layer PI (0 to np - 1) in the frame of an SFN (0 to 4095), as the value. */
@@ -98,6 +101,12 @@ uint64_t slt_pccpch_read(const uint8_t *antenna1, size_t n_antenna1, const uint8
 /* AICH (TS 25.211, 5.3.3.7): 16 indicators -1, 0, +1 and 32 values. */
 uint64_t slt_aich_map(const int32_t *indicators, size_t n_indicators, int32_t *values, size_t n_values);
 uint64_t slt_aich_read(const int32_t *values, size_t n_values, int32_t *indicators, size_t n_indicators);
+
+/* The same under a set of available signatures, bit s for signature s: the indicator of any other signature must be 0. */
+uint64_t slt_aich_map_available(uint16_t available, const int32_t *indicators, size_t n_indicators, int32_t *values,
+                                size_t n_values);
+uint64_t slt_aich_read_available(uint16_t available, const int32_t *values, size_t n_values, int32_t *indicators,
+                                 size_t n_indicators);
 
 /* The AICH of two antennas combined: gain parts -4096 to 4096, 32 received parts -1048576 to 1048576 (real and imaginary in turn),
  * one result for each of the 16 signatures. */

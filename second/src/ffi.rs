@@ -160,6 +160,29 @@ pub fn aich_read(values: &mut Lent<i32>, indicators: &mut Lent<i32>) -> Answer {
     })
 }
 
+unsafe extern "C" {
+    fn slt_aich_map_available(
+        available: u16, indicators: *const i32, n_indicators: usize, values: *mut i32, n_values: usize,
+    ) -> u64;
+    fn slt_aich_read_available(
+        available: u16, values: *const i32, n_values: usize, indicators: *mut i32, n_indicators: usize,
+    ) -> u64;
+}
+
+pub fn aich_map_available(available: u16, indicators: &mut Lent<i32>, values: &mut Lent<i32>) -> Answer {
+    let (n_indicators, n_values) = (indicators.len(), values.len());
+    Answer::unpack(unsafe {
+        slt_aich_map_available(available, indicators.pointer(), n_indicators, values.pointer(), n_values)
+    })
+}
+
+pub fn aich_read_available(available: u16, values: &mut Lent<i32>, indicators: &mut Lent<i32>) -> Answer {
+    let (n_values, n_indicators) = (values.len(), indicators.len());
+    Answer::unpack(unsafe {
+        slt_aich_read_available(available, values.pointer(), n_values, indicators.pointer(), n_indicators)
+    })
+}
+
 // AICH combiner
 
 unsafe extern "C" {

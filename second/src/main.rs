@@ -32,6 +32,7 @@ const CHANNELS: &[Channel] = &[
     ("sttd", compare::sttd::all),
     ("pccpch", compare::pccpch::all),
     ("aich", compare::aich::all),
+    ("aich_available", compare::aich_available::all),
     ("combiner", compare::combiner::all),
     ("sample", compare::sample::all),
 ];

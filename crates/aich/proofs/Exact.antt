@@ -16,7 +16,7 @@ use Rattle.run.proofs.Table.{tab-is}
 use Rattle.whole.specs.Bound.{Bounded}
 use Rattle.whole.proofs.Bound.{range-low, range-high}
 use Rattle.aich.specs.Rule.{valueAt, valuesOf, indicatorsIn}
-use Rattle.aich.specs.Outcome.{mapVerdict, readHead, readVerdict}
+use Rattle.aich.specs.Outcome.{mapVerdict, readHead, readVerdict, setVerdict, mapAvailableVerdict, readAvailableVerdict}
 use Rattle.aich.specs.Method.{Sixteen}
 use Rattle.aich.specs.Exact.{Gives, ReadExact, Sized, GivenSized, MapOnce, ReadOnce, Packs}
 use Rattle.aich.proofs.Laws.{entry, values-length, value-at, value-small, indicators-length, indicator-small, given-back}
@@ -110,5 +110,25 @@ read-narrow values indicatorsLength =
     (check-narrow _ 3 0 _ (lit< tt) (lit< tt) (lit< tt) (λ _. unless-narrow _ 3 1 (lit< tt) (lit< tt)))
     (λ _. unless-narrow _ 10 0 (lit< tt) (lit< tt))
 
+set-narrow : (available : ℕ) (indicators : List ℤ) → Narrow (setVerdict available indicators)
+unfolding setVerdict
+set-narrow available indicators = each-narrow 0 26 _ 16 (lit< tt) (lit< tt)
+
+map-available-narrow : (available : ℕ) (indicators : List ℤ) (valuesLength : ℕ) → Narrow (mapAvailableVerdict available indicators valuesLength)
+unfolding mapAvailableVerdict
+map-available-narrow available indicators valuesLength =
+    or-else-narrow _ _ (map-narrow indicators valuesLength) (λ _. set-narrow available indicators)
+
+read-available-narrow : (available : ℕ) (values : List ℤ) (indicatorsLength : ℕ) → Narrow (readAvailableVerdict available values indicatorsLength)
+unfolding readAvailableVerdict
+read-available-narrow available values indicatorsLength =
+    or-else-narrow _ _ (read-narrow values indicatorsLength) (λ _. set-narrow available (indicatorsIn values))
+
 pub packs : Packs
-packs = record { map-narrow = map-narrow; read-narrow = read-narrow }
+packs =
+    record {
+      map-narrow = map-narrow;
+      read-narrow = read-narrow;
+      map-available-narrow = map-available-narrow;
+      read-available-narrow = read-available-narrow;
+    }

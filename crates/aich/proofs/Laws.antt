@@ -115,6 +115,10 @@ unit-back : (y : ℤ) → Bounded 1 y → unit 32 (y *ℤ pos 16 +ℤ y *ℤ pos
 unfolding unit
 unit-back = each-unit (λ (y : ℤ). unit 32 (y *ℤ pos 16 +ℤ y *ℤ pos 16) ≡ y) refl refl refl
 
+pub unit-sign : (y : ℤ) → Bounded 1 y → signOf y ≡ y
+unfolding signOf
+unit-sign = each-unit (λ (y : ℤ). signOf y ≡ y) refl refl refl
+
 pub unit-fits : (y : ℤ) → Bounded 1 y → fits16 (y *ℤ pos 16) ≡ true
 unfolding fits16 signOf
 unit-fits = each-unit (λ (y : ℤ). fits16 (y *ℤ pos 16) ≡ true) refl refl refl

@@ -3,3 +3,4 @@ pub mod Laws
 pub mod Reading
 pub mod Checks
 pub mod Exact
+pub mod Available

@@ -12,7 +12,7 @@ use Rattle.run.specs.First.{Every}
 use Rattle.run.specs.Ranges.{inRange}
 use Rattle.run.specs.Verdicts.{done, Narrow}
 use Rattle.aich.specs.Rule.{valuesOf, indicatorsIn}
-use Rattle.aich.specs.Outcome.{mapVerdict, Map, readVerdict, Read}
+use Rattle.aich.specs.Outcome.{mapVerdict, Map, readVerdict, Read, mapAvailableVerdict, readAvailableVerdict}
 
 -- indicators give values: map takes them, and this is what it writes
 pub record Gives (indicators values : List ℤ) : Type 0 where
@@ -49,3 +49,5 @@ ReadOnce =
 pub record Packs : Type 0 where
   pub map-narrow : (indicators : List ℤ) (valuesLength : ℕ) → Narrow (mapVerdict indicators valuesLength)
   pub read-narrow : (values : List ℤ) (indicatorsLength : ℕ) → Narrow (readVerdict values indicatorsLength)
+  pub map-available-narrow : (available : ℕ) (indicators : List ℤ) (valuesLength : ℕ) → Narrow (mapAvailableVerdict available indicators valuesLength)
+  pub read-available-narrow : (available : ℕ) (values : List ℤ) (indicatorsLength : ℕ) → Narrow (readAvailableVerdict available values indicatorsLength)

@@ -2,3 +2,4 @@ pub mod Rule
 pub mod Outcome
 pub mod Method
 pub mod Exact
+pub mod Available

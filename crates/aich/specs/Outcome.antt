@@ -10,10 +10,10 @@ use lib.IntN.{ℤ, pos, negsuc}
 use Rattle.run.specs.declared.Verdict.{Verdict}
 use Rattle.run.specs.First.{all}
 use Rattle.run.specs.Ranges.{inRange}
-use Rattle.run.specs.Refusals.{lengthRefused, valuesRefused, rangeRefused}
+use Rattle.run.specs.Refusals.{lengthRefused, valuesRefused, rangeRefused, signatureRefused}
 use Rattle.run.specs.Verdicts.{orElse, unless, each, leaves}
 use Rattle.whole.specs.Equal.{eqZ}
-use Rattle.aich.specs.Rule.{valueAt, valuesOf, indicatorsIn}
+use Rattle.aich.specs.Rule.{valueAt, valuesOf, indicatorsIn, allows}
 
 -- map: 3 (indicators, values), 11 at the index; an indicator is -1, 0 or +1
 unfoldable pub mapVerdict : List ℤ → ℕ → Verdict
@@ -47,3 +47,25 @@ readVerdict values indicatorsLength =
 pub record Read (values indicators : List ℤ) (answer : Verdict) (indicators-after : List ℤ) : Type 0 where
   pub verdict-is : answer ≡ readVerdict values (length indicators)
   pub indicators-is : indicators-after ≡ leaves (readVerdict values (length indicators)) (indicatorsIn values) indicators
+
+-- ---- the same under a set of available signatures
+
+-- 26 at the lowest of the sixteen signatures that is not available and has an indicator other than 0
+unfoldable pub setVerdict : ℕ → List ℤ → Verdict
+setVerdict available indicators = each 0 signatureRefused (allows available indicators) 16
+
+-- map: its own checks, then 26
+unfoldable pub mapAvailableVerdict : ℕ → List ℤ → ℕ → Verdict
+mapAvailableVerdict available indicators valuesLength = orElse (mapVerdict indicators valuesLength) (setVerdict available indicators)
+
+pub record MapAvailable (available : ℕ) (indicators values : List ℤ) (answer : Verdict) (values-after : List ℤ) : Type 0 where
+  pub verdict-is : answer ≡ mapAvailableVerdict available indicators (length values)
+  pub values-is : values-after ≡ leaves (mapAvailableVerdict available indicators (length values)) (valuesOf indicators) values
+
+-- read: its own checks, then 26 for the indicators that the values give
+unfoldable pub readAvailableVerdict : ℕ → List ℤ → ℕ → Verdict
+readAvailableVerdict available values indicatorsLength = orElse (readVerdict values indicatorsLength) (setVerdict available (indicatorsIn values))
+
+pub record ReadAvailable (available : ℕ) (values indicators : List ℤ) (answer : Verdict) (indicators-after : List ℤ) : Type 0 where
+  pub verdict-is : answer ≡ readAvailableVerdict available values (length indicators)
+  pub indicators-is : indicators-after ≡ leaves (readAvailableVerdict available values (length indicators)) (indicatorsIn values) indicators

@@ -1,8 +1,9 @@
--- docs/RULES.md, 'AICH'; TS 25.211, 5.3.3.7: the values that indicators give, and the indicators of values.
+-- docs/RULES.md, 'AICH'; TS 25.211, 5.3.3.7: the values that indicators give, the indicators of values, and what a set of available signatures allows.
 -- Assumes nothing.
-use Prim.Native.Nat.{ℕ}
-use mathlib.Core.Bool.{cond}
+use Prim.Native.Nat.{ℕ, _/_, _%_, _^_}
+use mathlib.Core.Bool.{Bool, cond, _||_}
 use mathlib.Core.List.{List}
+use lib.Dec.{eqb}
 use lib.ListN.{getD}
 use lib.IntN.{ℤ, pos, negsuc, negℤ, _*ℤ_}
 use Rattle.run.specs.Table.{tab}
@@ -29,3 +30,11 @@ unit n z = cond (eqZ z (pos n)) (pos 1) (cond (eqZ z (negℤ (pos n))) (negsuc 0
 -- the indicators of values: the correlation of what indicators give is 32 times the signature's own
 unfoldable pub indicatorsIn : List ℤ → List ℤ
 indicatorsIn values = tab 16 (λ (s : ℕ). unit 32 (correlation values s))
+
+-- a set of signatures is a number of 16 bits: signature s is available where bit s is 1
+unfoldable pub offers : ℕ → ℕ → Bool
+offers available s = eqb (available / 2 ^ s % 2) 1
+
+-- the indicator of a signature that is not available is 0
+unfoldable pub allows : ℕ → List ℤ → ℕ → Bool
+allows available indicators s = offers available s || eqZ (getD indicators s (pos 0)) (pos 0)

@@ -7,8 +7,10 @@ ghost use mathlib.Core.Path.{_≡_};
 ghost use lib.ListN.{length};
 ghost use Rattle.run.specs.First.{all};
 ghost use Rattle.aich.specs.Rule.{valuesOf};
-ghost use Rattle.aich.specs.Outcome.{mapVerdict, Map, readHead, Read};
+ghost use Rattle.aich.specs.Outcome.{mapVerdict, Map, readHead, Read, MapAvailable, ReadAvailable};
 ghost use Rattle.aich.specs.Method.{Sixteen, folded, halfOf, firsts, isPair, alike, signOf, fits16, fitsAt, unitsOf};
+
+mod set;
 
 // Entries i and i + 8 become their sum and their difference, side by side.
 fn fold(x: &[i32]) -> [i32; 16]
@@ -193,4 +195,46 @@ pub fn read(values: &[i32], indicators: &mut [i32]) -> Verdict
     }
     write_indicators(&sums, indicators);
     head
+}
+
+// `map` under a set of available signatures.
+pub fn map_available(available: u16, indicators: &[i32], values: &mut [i32]) -> Verdict
+    ensures { λ r. ⌜ MapAvailable available (now (indicators .entry)) (now (values .entry)) r (now (values .exit)) ⌝ }
+{
+    let verdict = map_verdict(indicators, values.len());
+    if verdict.number != 0 {
+        return verdict;
+    }
+    let stray = set::first_stray(available, indicators);
+    if stray < 16 {
+        return Verdict {
+            number: refusal::SIGNATURE,
+            place: stray,
+        };
+    }
+    write_values(indicators, values);
+    verdict
+}
+
+// `read` under a set of available signatures. The indicators are found in an array first: nothing may be written before they are looked at.
+pub fn read_available(available: u16, values: &[i32], indicators: &mut [i32]) -> Verdict
+    ensures { λ r. ⌜ ReadAvailable available (now (values .entry)) (now (indicators .entry)) r (now (indicators .exit)) ⌝ }
+{
+    if indicators.len() != 16 {
+        return read(values, indicators);
+    }
+    let mut found = [0i32; 16];
+    let verdict = read(values, &mut found);
+    if verdict.number != 0 {
+        return verdict;
+    }
+    let stray = set::first_stray(available, &found);
+    if stray < 16 {
+        return Verdict {
+            number: refusal::SIGNATURE,
+            place: stray,
+        };
+    }
+    write_indicators(&found, indicators);
+    verdict
 }

@@ -35,15 +35,19 @@ pub(crate) const AICH_MAP: usize = 10;
 
 pub(crate) const AICH_READ: usize = 11;
 
-pub(crate) const STTD_VALUES: usize = 12;
+pub(crate) const AICH_MAP_AVAILABLE: usize = 12;
 
-pub(crate) const AICH_COMBINE: usize = 13;
+pub(crate) const AICH_READ_AVAILABLE: usize = 13;
 
-pub(crate) const SAMPLE: usize = 14;
+pub(crate) const STTD_VALUES: usize = 14;
 
-pub(crate) const JOB: usize = 15;
+pub(crate) const AICH_COMBINE: usize = 15;
 
-pub(crate) const NONE: usize = 16;
+pub(crate) const SAMPLE: usize = 16;
+
+pub(crate) const JOB: usize = 17;
+
+pub(crate) const NONE: usize = 18;
 
 // How many digits and how many whole numbers a run has at most.
 pub(crate) const DIGITS: usize = 300;
@@ -102,7 +106,7 @@ pub(crate) fn call(line: &[u8]) -> usize {
     let mut k = 0;
     while k < NONE {
         let name = piece(
-            b" slot map , frame map , P-CCPCH read , PICH map , PICH read , STTD digits , slot read , P-CCPCH map , frame read , PICH q , AICH map , AICH read , STTD values , AICH combine , sample , job ",
+            b" slot map , frame map , P-CCPCH read , PICH map , PICH read , STTD digits , slot read , P-CCPCH map , frame read , PICH q , AICH map , AICH read , AICH available map , AICH available read , STTD values , AICH combine , sample , job ",
             b',',
             k,
         );

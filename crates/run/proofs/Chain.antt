@@ -6,12 +6,12 @@ use mathlib.Core.List.{List, [], _∷_}
 use Prim.Native.Nat.{ℕ, zero, suc, _+_, _<_, suc-le-suc}
 use native.Mathlib.Nat.{zero-add, not-suc-le-zero, le-of-suc-le-suc}
 use native.Mathlib.Omega.{arith}
-use borrow.Author.Tests.{eqb-true, eqb-false, eq-eqb, ne-eqb}
+use borrow.Author.Tests.{eqb-true, eqb-false, eq-eqb, ne-eqb, leb-false, lt-leb}
 use lib.Dec.{eqb, leb, lit<}
 use lib.ListN.{length, getD}
 use Rattle.run.specs.declared.Verdict.{Verdict}
 use Rattle.run.specs.First.{firstBad, all, Every}
-use Rattle.run.specs.Verdicts.{done, orElse, unless, each, lengths, chain, leaves, Narrow}
+use Rattle.run.specs.Verdicts.{refused, done, orElse, unless, each, lengths, chain, leaves, Narrow}
 use Rattle.run.proofs.First.{first-le}
 use Rattle.run.proofs.Passing.{all-every, every-all}
 
@@ -132,6 +132,24 @@ pub or-else-next : (v w : Verdict) → v .number ≡ 0 → orElse v w ≡ w
 unfolding orElse
 or-else-next v w h = rw (eq-eqb (v .number) 0 h)
 
+-- a verdict whose number is 0 has place 0 too: each link of a chain is such
+pub unless-plain : (ok : Bool) (number place : ℕ) → 0 < number → unless ok number place .number ≡ 0 → unless ok number place ≡ done
+unless-plain ok number place some h = unless-pass number place (unless-done ok number place some h)
+
+pub each-plain : (base number : ℕ) (ok : ℕ → Bool) (n : ℕ) → 0 < number → each base number ok n .number ≡ 0 → each base number ok n ≡ done
+each-plain base number ok n some h = each-pass base number ok n (each-done base number ok n some h)
+
+pub or-else-plain : (v w : Verdict) → (v .number ≡ 0 → v ≡ done) → (w .number ≡ 0 → w ≡ done) → orElse v w .number ≡ 0 → orElse v w ≡ done
+or-else-plain v w p q h = let both = or-else-done v w h in or-else-pass (p (both .first)) (q (both .rest))
+
+-- .. and a check behind it that passes is not seen
+pub or-else-last : (v : Verdict) → (v .number ≡ 0 → v ≡ done) → orElse v done ≡ v
+or-else-last v p = side (eqb (v .number) 0) refl
+  where
+    side : (b : Bool) → eqb (v .number) 0 ≡ b → orElse v done ≡ v
+    side true e = let d = p (eqb-true _ _ e) in or-else-pass d refl ∙ sym d
+    side false e = or-else-refused v done (eqb-false _ _ e)
+
 -- a chain of n verdicts: none refuses, or the first that does
 pub chain-pass : (n : ℕ) (v : ℕ → Verdict) → ((k : ℕ) → k < n → v k ≡ done) → chain n v ≡ done
 unfolding chain
@@ -161,6 +179,22 @@ chain-hit (suc n) v (suc k) l before h =
 pub each-here : (number : ℕ) (ok : ℕ → Bool) (n : ℕ) → each 0 number ok n ≡ unless (all n ok) number (firstBad ok n)
 unfolding each
 each-here number ok n = ap (unless (all n ok) number) (zero-add (firstBad ok n))
+
+pub each-stops : (number : ℕ) (ok : ℕ → Bool) (n : ℕ) → firstBad ok n < n → each 0 number ok n ≡ refused number (firstBad ok n)
+unfolding unless
+each-stops number ok n l = each-here number ok n ∙ rw (lt-leb n (firstBad ok n) l)
+
+-- .. and where it refuses, it tells the first place that fails
+pub each-told : (number : ℕ) (ok : ℕ → Bool) (n s : ℕ) → 0 < number → each 0 number ok n ≡ refused number s → (s ≡ firstBad ok n) × (s < n)
+unfolding each unless
+each-told number ok n s some e = side (all n ok) refl e
+  where
+    side : (b : Bool) → all n ok ≡ b → cond b done (refused number (0 + firstBad ok n)) ≡ refused number s → (s ≡ firstBad ok n) × (s < n)
+    side true t h = let z : 0 ≡ number = ap (λ (v : Verdict). v .number) h in absurd (let w : ⊥ = omega arith in w)
+    side false t h =
+        let p : 0 + firstBad ok n ≡ s = ap (λ (v : Verdict). v .place) h in
+        let l : firstBad ok n < n = leb-false _ _ t in
+        (omega arith, omega arith)
 
 -- number and place fit their fields in each link of a chain
 pub or-else-narrow : (v w : Verdict) → Narrow v → (v .number ≡ 0 → Narrow w) → Narrow (orElse v w)

@@ -1,6 +1,7 @@
 pub mod Bools
 pub mod First
 pub mod Passing
+pub mod Backward
 pub mod Chain
 pub mod Each
 pub mod Front

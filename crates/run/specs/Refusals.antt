@@ -73,3 +73,7 @@ endsEarlyRefused = 24
 -- 25: bytes after the last record of a job file
 abbrev pub bytesAfterRefused : ℕ
 bytesAfterRefused = 25
+
+-- 26: a nonzero indicator of a signature that is not available
+abbrev pub signatureRefused : ℕ
+signatureRefused = 26

@@ -36,3 +36,5 @@ pub const KIND: usize = 23;
 pub const ENDS_EARLY: usize = 24;
 // 25: bytes after the last record of a job file.
 pub const BYTES_AFTER: usize = 25;
+// 26: a nonzero indicator of a signature that is not available.
+pub const SIGNATURE: usize = 26;

@@ -11,6 +11,8 @@ aich-tells =
     record {
       map = λ indicators values answer after p. tells _ (p .answer-is) (packs .map-narrow indicators _) (lit< tt);
       read = λ values indicators answer after p. tells _ (p .answer-is) (packs .read-narrow values _) (lit< tt);
+      map-available = λ available indicators values answer after p. tells _ (p .answer-is) (packs .map-available-narrow available indicators _) (lit< tt);
+      read-available = λ available values indicators answer after p. tells _ (p .answer-is) (packs .read-available-narrow available values _) (lit< tt);
     }
 
 pub aich-once : AichOnce
@@ -18,4 +20,6 @@ aich-once =
     record {
       map = λ indicators values a b x y p r. (one-outcome (p .answer-is) (r .answer-is), one-outcome (p .values-is) (r .values-is));
       read = λ values indicators a b x y p r. (one-outcome (p .answer-is) (r .answer-is), one-outcome (p .indicators-is) (r .indicators-is));
+      map-available = λ available indicators values a b x y p r. (one-outcome (p .answer-is) (r .answer-is), one-outcome (p .values-is) (r .values-is));
+      read-available = λ available values indicators a b x y p r. (one-outcome (p .answer-is) (r .answer-is), one-outcome (p .indicators-is) (r .indicators-is));
     }

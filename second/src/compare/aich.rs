@@ -9,7 +9,7 @@ use crate::random::Random;
 use crate::rules::aich::{self as rules, SIGNATURES, VALUES, b};
 
 /// Indicators just outside -1 to 1, and far outside.
-const NO_INDICATORS: [i32; 10] = [2, -2, 3, -3, 255, 256, 65536, 65537, i32::MAX, i32::MIN];
+pub const NO_INDICATORS: [i32; 10] = [2, -2, 3, -3, 255, 256, 65536, 65537, i32::MAX, i32::MIN];
 
 /// What a value is changed by; the damaged value wraps round where it must.
 const CHANGES: [i32; 16] =
@@ -76,7 +76,7 @@ fn round_trip(judge: &mut Judge, indicators: &[i32]) {
 // The inputs.
 
 /// Sixteen indicators -1, 0, +1.
-fn random_set(random: &mut Random) -> Vec<i32> {
+pub fn random_set(random: &mut Random) -> Vec<i32> {
     (0..SIGNATURES).map(|_| random.below(3) as i32 - 1).collect()
 }
 
@@ -95,7 +95,7 @@ fn some_values() -> Vec<Vec<i32>> {
 }
 
 /// The values of good indicators: the rules' own.
-fn good_values(indicators: &[i32]) -> Vec<i32> {
+pub fn good_values(indicators: &[i32]) -> Vec<i32> {
     rules::map(indicators, VALUES).expect("good indicators")
 }
 

@@ -3,6 +3,7 @@
 //! In every comparison `None` for a run is NULL with length 0.
 
 pub mod aich;
+pub mod aich_available;
 pub mod combiner;
 pub mod dpch;
 pub mod frame;

@@ -61,9 +61,35 @@ pub fn read(values: &[i32], n_indicators: usize) -> Result<Vec<i32>, Refusal> {
     Ok(indicators)
 }
 
+/// Of a set of available signatures bit s is signature s. A signature that is not in the set must have the indicator 0
+/// (docs/RULES.md, 'AICH'; TS 25.211, 5.3.3.7); the lowest that has another is 26.
+fn within(available: u16, indicators: &[i32]) -> Result<(), Refusal> {
+    for s in 0..SIGNATURES {
+        let offered = available & (1 << s) != 0;
+        if !offered && indicators[s] != 0 {
+            return refuse(26, s);
+        }
+    }
+    Ok(())
+}
+
+/// 3 and 11 as in mapping, then 26.
+pub fn map_available(available: u16, indicators: &[i32], n_values: usize) -> Result<Vec<i32>, Refusal> {
+    let values = map(indicators, n_values)?;
+    within(available, indicators)?;
+    Ok(values)
+}
+
+/// 3 and 10 as in reading, then 26 for the indicators that the values give.
+pub fn read_available(available: u16, values: &[i32], n_indicators: usize) -> Result<Vec<i32>, Refusal> {
+    let indicators = read(values, n_indicators)?;
+    within(available, &indicators)?;
+    Ok(indicators)
+}
+
 #[cfg(test)]
 mod tests {
-    use super::{map, read};
+    use super::{map, map_available, read, read_available};
     use crate::answer::refuse;
 
     #[test]
@@ -87,5 +113,20 @@ mod tests {
         let mut values = [1; 32];
         values[31] = -1;
         assert_eq!(read(&values, 16), refuse(10, 0));
+    }
+
+    #[test]
+    fn a_signature_outside_the_set() {
+        let mut indicators = [0; 16];
+        indicators[1] = -1;
+        indicators[15] = 1;
+        let values = map(&indicators, 32).unwrap();
+        assert_eq!(map_available(0x8002, &indicators, 32), Ok(values.clone()));
+        assert_eq!(read_available(0x8002, &values, 16), Ok(indicators.to_vec()));
+        assert_eq!(map_available(0x8000, &indicators, 32), refuse(26, 1));
+        assert_eq!(read_available(0x0002, &values, 16), refuse(26, 15));
+        indicators[7] = 2;
+        assert_eq!(map_available(0, &indicators, 32), refuse(11, 7));
+        assert_eq!(read_available(0, &[2; 32], 16), refuse(10, 0));
     }
 }

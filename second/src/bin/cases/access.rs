@@ -1,4 +1,4 @@
-//! AICH: P9 to P12, indicators, values and the combiner.
+//! AICH: P9 to P12, indicators, values, sets of available signatures and the combiner.
 
 use crate::case::{Case, Line};
 use crate::runs::{FAR, far, left, numbers};
@@ -49,6 +49,59 @@ fn reading() -> Vec<Case> {
     ]
 }
 
+fn map_available(name: &str, available: u16, indicators: &[i32], n_values: usize) -> Case {
+    let outcome = aich::map_available(available, indicators, n_values);
+    let line = Line::new(name, "AICH available map").key("set", available).key("indicators", numbers(indicators));
+    line.lent("values", far(n_values), numbers(&left(&outcome, n_values, FAR))).answered(&outcome)
+}
+
+fn read_available(name: &str, available: u16, values: &[i32], n_indicators: usize) -> Case {
+    let outcome = aich::read_available(available, values, n_indicators);
+    let line = Line::new(name, "AICH available read").key("set", available).key("values", numbers(values));
+    line.lent("indicators", far(n_indicators), numbers(&left(&outcome, n_indicators, FAR))).answered(&outcome)
+}
+
+/// Signatures 0 and 15 have indicators, and one in between that is out of range or not.
+fn ends(between: i32) -> [i32; 16] {
+    let mut indicators = [0; 16];
+    indicators[0] = 1;
+    indicators[9] = between;
+    indicators[15] = -1;
+    indicators
+}
+
+fn mapping_available() -> Vec<Case> {
+    vec![
+        map_available("done", 0xffff, &[1; 16], 32),
+        map_available("done", 0x8001, &ends(0), 32),
+        map_available("done", 0, &[0; 16], 32),
+        // a negative indicator outside the set was once mapped without a word
+        map_available("slip", 0x7fff, &ends(0), 32),
+        map_available("refusal 26", 0x7ffe, &ends(1), 32),
+        map_available("refusal 26", 0x8001, &ends(-1), 32),
+        map_available("refusal 11", 0x7ffe, &ends(2), 32),
+        map_available("refusal 3", 0, &[2; 15], 31),
+        map_available("refusal 3", 0, &[2; 16], 31),
+    ]
+}
+
+fn reading_available() -> Vec<Case> {
+    let values = aich::map(&ends(1), 32).expect("these are indicators");
+    // unlike neighbours with the same sum: the correlations show the same indicators, which no longer give the values
+    let mut unlike = values.clone();
+    unlike[0] += 1;
+    unlike[1] -= 1;
+    vec![
+        read_available("done", 0xffff, &values, 16),
+        read_available("done", 0x8201, &values, 16),
+        read_available("refusal 26", 0x7ffe, &values, 16),
+        read_available("refusal 26", 0x8001, &values, 16),
+        read_available("refusal 10", 0x7ffe, &unlike, 16),
+        read_available("refusal 3", 0x7ffe, &values, 17),
+        read_available("refusal 3", 0x7ffe, &values[1..], 17),
+    ]
+}
+
 /// The gains are the parts of h1 and h2.
 fn combined(name: &str, gains: [i64; 4], received: &[i32]) -> Case {
     let outcome = combine(gains, received, 16);
@@ -91,5 +144,5 @@ fn combining() -> Vec<Case> {
 }
 
 pub fn all() -> Vec<Case> {
-    [mapping(), reading(), combining()].concat()
+    [mapping(), reading(), mapping_available(), reading_available(), combining()].concat()
 }

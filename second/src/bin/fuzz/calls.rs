@@ -119,6 +119,36 @@ pub fn aich_read(draw: &mut Draw) -> Case {
     Case::of(&[]).held(&values).room(&indicators, outcome.as_deref().ok()).answers(Answer::of(&outcome))
 }
 
+/// A set of available signatures, and indicators that it allows; one in four sets then lacks a signature more, which may
+/// have an indicator.
+fn available_and_indicators(draw: &mut Draw) -> (u16, Vec<i32>) {
+    let (half, more) = (draw.random.next() as u16, draw.random.next() as u16);
+    let set = draw.random.pick(&[half, half | more, half | more, u16::MAX]);
+    let indicators = (0..aich::SIGNATURES).map(|s| if set >> s & 1 == 1 { draw.in_range(1) as i32 } else { 0 });
+    let indicators = indicators.collect();
+    let lacking = if draw.random.below(4) == 0 { 1 << draw.random.below(aich::SIGNATURES) } else { 0 };
+    (set & !lacking, indicators)
+}
+
+pub fn aich_map_available(draw: &mut Draw) -> Case {
+    let (available, indicators) = available_and_indicators(draw);
+    let indicators = draw.values(indicators);
+    let (indicators, values) = (draw.lend(indicators), draw.room(aich::VALUES));
+    let outcome = aich::map_available(available, &indicators.run, values.length);
+    let case = Case::of(&[available.into()]).held(&indicators);
+    case.room(&values, outcome.as_deref().ok()).answers(Answer::of(&outcome))
+}
+
+pub fn aich_read_available(draw: &mut Draw) -> Case {
+    let (available, indicators) = available_and_indicators(draw);
+    let sent = aich::map(&indicators, aich::VALUES).expect("good indicators");
+    let sent = draw.values(sent);
+    let (values, indicators) = (draw.lend(sent), draw.room(aich::SIGNATURES));
+    let outcome = aich::read_available(available, &values.run, indicators.length);
+    let case = Case::of(&[available.into()]).held(&values);
+    case.room(&indicators, outcome.as_deref().ok()).answers(Answer::of(&outcome))
+}
+
 pub fn aich_combine(draw: &mut Draw) -> Case {
     let silent = draw.random.below(12) == 0;
     let gains = [0; 4].map(|_| if silent { 0 } else { draw.whole(combiner::GAIN_LIMIT) });

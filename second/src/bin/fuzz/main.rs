@@ -26,7 +26,7 @@ use std::process::ExitCode;
 type Call = (&'static [u16], fn(&mut Draw) -> Case);
 
 /// In the order of `include/slt.h`, which is that of the table in `fuzz/calls.c`.
-const CALLS: [Call; 17] = [
+const CALLS: [Call; 19] = [
     (&[0, 8, 11], calls::pich_q),
     (&[0, 3, 4, 8], calls::pich_map),
     (&[0, 3, 4, 8, 9], calls::pich_read),
@@ -40,6 +40,8 @@ const CALLS: [Call; 17] = [
     (&[0, 3, 4, 9], calls::pccpch_read),
     (&[0, 3, 11], calls::aich_map),
     (&[0, 3, 10], calls::aich_read),
+    (&[0, 3, 11, 26], calls::aich_map_available),
+    (&[0, 3, 10, 26], calls::aich_read_available),
     (&[0, 3, 11, 12], calls::aich_combine),
     (&[0, 11], calls::sample_off),
     (&[0, 11], calls::sample_shared),
@@ -47,7 +49,7 @@ const CALLS: [Call; 17] = [
 ];
 
 /// As many of each call.
-const CASES: u64 = 17 * 40_000;
+const CASES: u64 = 19 * 40_000;
 
 fn main() -> ExitCode {
     let words: Result<Vec<u64>, _> = std::env::args().skip(1).map(|word| word.parse()).collect();

@@ -1,0 +1,38 @@
+// The set of signatures that a cell offers: docs/RULES.md, 'AICH'; TS 25.211, 5.3.3.7.
+ghost use Prim.Native.Nat.{_<_};
+ghost use mathlib.Core.Path.{_≡_};
+ghost use mathlib.Core.Bool.{_||_};
+ghost use lib.ListN.{length};
+ghost use lib.IntN.{pos};
+ghost use Rattle.run.specs.First.{firstBad};
+ghost use Rattle.whole.specs.Equal.{eqZ};
+ghost use Rattle.aich.specs.Rule.{offers, allows};
+
+// Signature s may have this indicator: it is 0, or bit s of the set is 1.
+fn allowed(available: u16, s: usize, indicator: i32) -> bool
+    requires { ⌜ s < 16 ⌝ }
+    ensures { λ r. ⌜ r ≡ (offers available s || eqZ indicator (pos 0)) ⌝ }
+{
+    if indicator == 0 {
+        return true;
+    }
+    (available as usize >> s) % 2 == 1
+}
+
+// The lowest signature that may not have its indicator, or 16. The signatures are gone through from the highest on with no early way out: so no branch
+// depends on the indicators.
+pub(crate) fn first_stray(available: u16, indicators: &[i32]) -> usize
+    requires { ⌜ length (now indicators) ≡ 16 ⌝ }
+    ensures { λ r. ⌜ r ≡ firstBad (allows available (now (indicators .entry))) 16 ⌝ }
+{
+    let mut first = 16;
+    let mut i = 0;
+    while i < 16 {
+        let s = 15 - i;
+        if !allowed(available, s, indicators[s]) {
+            first = s;
+        }
+        i += 1;
+    }
+    first
+}
