@@ -63,7 +63,7 @@ fn write_values(indicators: &[i32], values: &mut [i32])
     }
 }
 
-// The values of the indicators, or the refusal and the values as they were.
+// The values of the indicators, or the refusal and the values as they were. Done is written out, so that it need not wait for a place.
 pub fn map(indicators: &[i32], values: &mut [i32]) -> Verdict
     ensures { λ r. ⌜ Map (now (indicators .entry)) (now (values .entry)) r (now (values .exit)) ⌝ }
 {
@@ -72,7 +72,10 @@ pub fn map(indicators: &[i32], values: &mut [i32]) -> Verdict
         return verdict;
     }
     write_values(indicators, values);
-    verdict
+    Verdict {
+        number: 0,
+        place: 0,
+    }
 }
 
 fn read_head(values_length: usize, indicators_length: usize) -> Verdict
