@@ -1,28 +1,43 @@
 // The primary common control physical channel on two antennas, mapped: docs/RULES.md, 'P-CCPCH'; TS 25.211, 5.3.3.3 and 5.3.3.3.1.
+use run::DTX;
 use run::Verdict;
 use run::found;
 use run::or_else;
 use run::refusal;
 use run::unless;
 ghost use mathlib.Core.Path.{_≡_};
+ghost use mathlib.Core.Bool.{true};
+ghost use mathlib.Core.List.{_∷_};
 ghost use lib.ListN.{length};
+ghost use Rattle.run.specs.Digits.{dtx};
+ghost use Rattle.run.specs.Verdicts.{done};
 ghost use Rattle.pccpch.specs.Rule.{frameOf, coded, secondOf};
 ghost use Rattle.pccpch.specs.Outcome.{mapVerdict, Map};
 
-// The frame starts as DTX, takes each slot's 18 digits behind the slot's first two, and is copied to the lent frame.
+// A slot of 18 digits behind two of DTX. The digits are held before they are written: so the compiler need not ask whether the runs lie apart, and copies them at once.
+fn write_slot(digits: &[u8], slot: &mut [u8])
+    requires { ⌜ (length (now digits) ≡ 18) × (length (now slot) ≡ 20) ⌝ }
+    ensures { λ _. ⌜ now (slot .exit) ≡ dtx ∷ dtx ∷ now (digits .entry) ⌝ }
+{
+    let mut held = [0u8; 18];
+    write::copy(&mut held, digits);
+    write::copy(&mut slot[2..20], &held);
+    slot[0] = DTX;
+    slot[1] = DTX;
+}
+
+// Slot after slot.
 fn write_frame(digits: &[u8], antenna: &mut [u8])
     requires { ⌜ (length (now digits) ≡ 270) × (length (now antenna) ≡ 300) ⌝ }
     ensures { λ _. ⌜ now (antenna .exit) ≡ frameOf (now (digits .entry)) ⌝ }
 {
-    let mut frame = [2u8; 300];
     let mut slot = 0;
     while slot < 15 {
         let from = 18 * slot;
-        let to = 20 * slot + 2;
-        write::copy(&mut frame[to..to + 18], &digits[from..from + 18]);
+        let to = 20 * slot;
+        write_slot(&digits[from..from + 18], &mut antenna[to..to + 20]);
         slot += 1;
     }
-    write::copy(antenna, &frame);
 }
 
 // Antenna 2's digits: STTD over digits 0 to 267 in fours, whatever slots they stand in; the last two stay as they are.
@@ -30,8 +45,9 @@ fn code(digits: &[u8], out: &mut [u8])
     requires { ⌜ (length (now digits) ≡ 270) × (length (now out) ≡ 270) ⌝ }
     ensures { λ _. ⌜ now (out .exit) ≡ coded (now (digits .entry)) ⌝ }
 {
-    write::copy(out, digits);
     sttd::encode(&digits[0..268], &mut out[0..268]);
+    out[268] = digits[268];
+    out[269] = digits[269];
 }
 
 // The frame of antenna 2's digits.
@@ -44,6 +60,17 @@ fn write_second(digits: &[u8], antenna: &mut [u8])
     write_frame(&coded, antenna);
 }
 
+// Both frames. Antenna 2's digits come first: they are in memory when they are asked for.
+fn write_both(data: &[u8], antenna1: &mut [u8], antenna2: &mut [u8])
+    requires { ⌜ (length (now «data») ≡ 270) × (length (now antenna1) ≡ 300) × (length (now antenna2) ≡ 300) ⌝ }
+    ensures { λ _. ⌜ (now (antenna1 .exit) ≡ frameOf (now («data» .entry))) × (now (antenna2 .exit) ≡ secondOf (now («data» .entry))) ⌝ }
+{
+    let mut coded = [0u8; 270];
+    code(data, &mut coded);
+    write_frame(data, antenna1);
+    write_frame(&coded, antenna2);
+}
+
 // What antenna 2 carries of 270 digits, whatever they are.
 pub fn second_of(digits: [u8; 270]) -> [u8; 300]
     ensures { λ r. ⌜ r ≡ secondOf digits ⌝ }
@@ -53,9 +80,32 @@ pub fn second_of(digits: [u8; 270]) -> [u8; 300]
     antenna
 }
 
+// The lengths are right, and every digit is 0 or 1: of 270 digits, and not of as many as there are, it is asked at once.
+fn fits(data: &[u8], length1: usize, length2: usize) -> bool
+    ensures { λ r. ⌜ (r ≡ true → mapVerdict (now («data» .entry)) length1 length2 ≡ done) ⌝ }
+{
+    if data.len() != 270 {
+        return false;
+    }
+    if length1 != 300 {
+        return false;
+    }
+    if length2 != 300 {
+        return false;
+    }
+    270 <= scan::first_above(&data[0..270], 1)
+}
+
+// What fits is taken at once. Else the checks in their order find the refusal.
 fn map_verdict(data: &[u8], length1: usize, length2: usize) -> Verdict
     ensures { λ r. ⌜ r ≡ mapVerdict (now («data» .entry)) length1 length2 ⌝ }
 {
+    if fits(data, length1, length2) {
+        return Verdict {
+            number: 0,
+            place: 0,
+        };
+    }
     let digits = found(data, scan::first_above(data, 1), refusal::DIGIT, 0);
     let third = or_else(unless(length2 == 300, refusal::LENGTH, 2), digits);
     let second = or_else(unless(length1 == 300, refusal::LENGTH, 1), third);
@@ -70,7 +120,6 @@ pub fn map(data: &[u8], antenna1: &mut [u8], antenna2: &mut [u8]) -> Verdict
     if verdict.number != 0 {
         return verdict;
     }
-    write_frame(data, antenna1);
-    write_second(data, antenna2);
+    write_both(data, antenna1, antenna2);
     verdict
 }

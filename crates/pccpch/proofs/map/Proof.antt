@@ -16,16 +16,10 @@ returns c =
     let stop = rw e at (c .if1 .taken) in
     record { verdict-is = e; antenna1-is = sym (leaves-refused _ _ _ stop); antenna2-is = sym (leaves-refused _ _ _ stop) }
 
-write-frame-requires : tie.Need-write-frame-requires
-write-frame-requires c κs =
-    let t = taken _ _ _ (rw (c .before .before .before .map-verdict .ensures) at (c .before .if1 .left)) in
-    (t .data-ok, t .first-ok)
-
-write-second-requires : tie.Need-write-second-requires
-write-second-requires c κs =
-    let turn = c .before .before .before .before .before in
-    let t = taken _ _ _ (rw (turn .before .before .map-verdict .ensures) at (turn .if1 .left)) in
-    (t .data-ok, t .second-ok)
+write-both-requires : tie.Need-write-both-requires
+write-both-requires c κs =
+    let t = taken _ _ _ (rw (c .before .before .before .before .map-verdict .ensures) at (c .before .before .if1 .left)) in
+    (t .data-ok, t .first-ok, t .second-ok)
 
 same-length : tie.Need-same-length
 same-length c = search needs
@@ -35,25 +29,17 @@ same-length-2 c = search needs
 
 returns-2 : tie.Need-returns-2
 returns-2 c =
-    let second = c .before .before in
-    let first = second .before .before .before .before in
-    let turn = first .before .before in
+    let both = c .before .before .before .before in
+    let turn = both .before .before .before in
     let e = turn .before .before .map-verdict .ensures in
     let ok = rw e at (turn .if1 .left) in
     record {
       verdict-is = e;
-      antenna1-is = first .write-frame .ensures ∙ sym (leaves-done _ _ _ ok);
-      antenna2-is = second .write-second .ensures ∙ sym (leaves-done _ _ _ ok);
+      antenna1-is = both .write-both .ensures .0 ∙ sym (leaves-done _ _ _ ok);
+      antenna2-is = both .write-both .ensures .1 ∙ sym (leaves-done _ _ _ ok);
     }
 
 pub map-spec : {M : Type 1} → statement M
 map-spec =
     tie.close
-    (tie.spec
-    map-verdict-requires
-    returns
-    write-frame-requires
-    write-second-requires
-    same-length
-    same-length-2
-    returns-2)
+    (tie.spec map-verdict-requires returns write-both-requires same-length same-length-2 returns-2)
