@@ -2,22 +2,23 @@
 -- Assumes nothing.
 use mathlib.Core.Path.{_≡_, refl, sym, ap, _∙_, subst}
 use mathlib.Core.Bool.{Bool, true, false}
-use mathlib.Core.List.{List, [], _∷_, append-nil}
+use mathlib.Core.List.{List}
 use Prim.Native.Nat.{ℕ, zero, suc, _+_, _-_, _*_, _/_, _%_, _≤_, _<_}
 use native.Mathlib.Nat.{not-suc-le-zero}
 use native.Mathlib.Omega.{arith}
 use borrow.Rule.Slice.PartMut.{putMid, midOf}
 use borrow.Author.Tests.{eqb-true, eqb-false, ltb-true, ltb-false, eq-eqb}
 use lib.Dec.{eqb, ltb}
-use lib.ListN.{length, getD, set, take, drop, replicate, length-set, length-replicate, getD-replicate, take-append-drop, length-drop, drop-of-length-le}
-use lib.Seq.{getD-set-same, getD-set-other, getD-take, getD-drop, length-take-le, take-all, ext-getD}
+use lib.ListN.{length, getD, set, take, drop, replicate, length-set, length-replicate, getD-replicate, take-append-drop, length-drop}
+use lib.Seq.{getD-set-same, getD-set-other, getD-drop, length-take-le, take-all}
 use Rattle.run.specs.Digits.{dtx}
-use Rattle.run.specs.First.{firstBad, atMost}
+use Rattle.run.specs.First.{firstBad, Every, atMost}
 use Rattle.run.specs.Verdicts.{done}
+use Rattle.run.specs.Written.{over}
 use Rattle.run.proofs.Chain.{or-else-pass, unless-pass, each-pass}
-use Rattle.run.proofs.First.{none-first}
+use Rattle.run.proofs.First.{first-none, none-first}
 use Rattle.run.proofs.Front.{Front, front-none, front-length, front-part, front-store, front-all}
-use Rattle.run.proofs.Lent.{part-width, part-length}
+use Rattle.run.proofs.Lent.{part-width, part-length, same-part, front-copied}
 use Rattle.run.proofs.Table.{tab-length, tab-at}
 use Rattle.sttd.specs.Rule.{sttd, barDigit}
 use Rattle.sttd.specs.Outcome.{encodedOver}
@@ -105,51 +106,51 @@ pub second-length : (digits : List ℕ) → length (secondOf digits) ≡ 300
 unfolding secondOf
 second-length digits = frame-length (coded digits)
 
--- ---- the frame as it is written, slot after slot
--- a slot in which 18 digits were put behind the first two, and then DTX in those
-pub slot-stands : (slot digits ys : List ℕ) → length slot ≡ 20 → ys ≡ digits → set (set (putMid 2 18 slot ys) 0 dtx) 1 dtx ≡ dtx ∷ dtx ∷ digits
-slot-stands [] digits ys h e = absurd (let z : ⊥ = omega arith in z)
-slot-stands (a ∷ []) digits ys h e = absurd (let z : ⊥ = omega arith in z)
-slot-stands (a ∷ b ∷ rest) digits ys h e =
-    let none : drop 18 rest ≡ [] = drop-of-length-le rest {i = 18} (omega arith) in
-    rw (none, append-nil, e) refl
+-- ---- the frame as it is written: it starts as DTX, and slot after slot its 18 digits are copied behind its first two
+pub blank : List ℕ
+blank = replicate 300 dtx
+
+blank-length : length blank ≡ 300
+unfolding blank
+blank-length = length-replicate {A = ℕ} 300 2
+
+pub frame-starts : (digits : List ℕ) → Front (frameOf digits) blank (replicate 300 dtx) 0
+unfolding blank
+frame-starts digits = front-none (frame-length digits ∙ blank-length)
 
 module _ (digits : List ℕ) (long : length digits ≡ 270) (s : ℕ) (h : s < 15) where
   -- the slot's 18 digits, where they stand in the frame
-  slot-digit : (j : ℕ) → j < 18 → getD digits (18 * s + j) 0 ≡ getD (frameOf digits) (20 * s + suc (suc j)) 0
-  slot-digit j l =
-      let there : place (18 * s + j) ≡ 20 * s + suc (suc j) = omega arith in
-      sym (frame-at digits (18 * s + j) (omega arith)) ∙ ap (λ (n : ℕ). getD (frameOf digits) n 0) there
-
-  slot-at : (j : ℕ) → j < 20 → getD (dtx ∷ dtx ∷ take 18 (drop (18 * s) digits)) j 0 ≡ getD (frameOf digits) (20 * s + j) 0
-  slot-at zero l = sym (frame-silent digits (20 * s + 0) (omega arith) (omega arith))
-  slot-at (suc zero) l = sym (frame-silent digits (20 * s + 1) (omega arith) (omega arith))
-  slot-at (suc (suc j)) l =
-      let m : j < 18 = omega arith in
-      let here : getD (dtx ∷ dtx ∷ take 18 (drop (18 * s) digits)) (suc (suc j)) 0 ≡ getD digits (18 * s + j) 0 =
-      getD-take 18 (drop (18 * s) digits) j 0 m ∙ getD-drop (18 * s) digits j 0
-      in
-      here ∙ slot-digit j m
-
-  slot-is : dtx ∷ dtx ∷ take 18 (drop (18 * s) digits) ≡ take 20 (drop (20 * s) (frameOf digits))
-  slot-is =
+  slot-digits : take 18 (drop (18 * s) digits) ≡ take 18 (drop (20 * s + 2) (frameOf digits))
+  slot-digits =
       let n = frame-length digits in
-      let p : length (take 18 (drop (18 * s) digits)) ≡ 18 = rw (part-width (18 * s) 18) at (part-length digits (18 * s) 18 (omega arith)) in
-      let q : length (take 20 (drop (20 * s) (frameOf digits))) ≡ 20 = rw (part-width (20 * s) 20) at (part-length (frameOf digits) (20 * s) 20 (omega arith)) in
-      let r : length (dtx ∷ dtx ∷ take 18 (drop (18 * s) digits)) ≡ 20 = ap (λ (n : ℕ). suc (suc n)) p in
-      ext-getD 0 _ _ (r ∙ sym q)
+      same-part 0 digits (frameOf digits) (18 * s) (20 * s + 2) 18 (omega arith) (omega arith)
       (λ j l.
-      let m : j < 20 = rw r at l in
-      slot-at j m ∙ sym (getD-take 20 (drop (20 * s) (frameOf digits)) j 0 m ∙ getD-drop (20 * s) (frameOf digits) j 0))
+      let there : place (18 * s + j) ≡ 20 * s + 2 + j = omega arith in
+      sym (frame-at digits (18 * s + j) (omega arith)) ∙ ap (λ (n : ℕ). getD (frameOf digits) n 0) there)
 
-  pub slot-written : {d₀ d ys : List ℕ} → length d₀ ≡ 300 → Front (frameOf digits) d₀ d (20 * s)
-      → ys ≡ dtx ∷ dtx ∷ take (18 * s + 18 - 18 * s) (drop (18 * s) digits)
-      → Front (frameOf digits) d₀ (putMid (20 * s) (20 * s + 20 - 20 * s) d ys) (20 * (s + 1))
-  slot-written {d₀} {d} {ys} m f e =
-      let next : 20 * s + 20 ≡ 20 * (s + 1) = omega arith in
-      let is : ys ≡ take (20 * s + 20 - 20 * s) (drop (20 * s) (frameOf digits)) = e ∙ rw (part-width (18 * s) 18, part-width (20 * s) 20) slot-is in
-      subst (λ (n : ℕ). Front (frameOf digits) d₀ (putMid (20 * s) (20 * s + 20 - 20 * s) d ys) n) next
-      (front-part (20 * s + 20) f (omega arith) (omega arith) is)
+  -- its first two are stored, and its digits copied behind them
+  pub slot-written : {frame ys : List ℕ} → Front (frameOf digits) blank frame (20 * s)
+      → ys ≡ over (take (18 * s + 18 - 18 * s) (drop (18 * s) digits)) (midOf (20 * s + 2) (20 * s + 2 + 18 - (20 * s + 2)) (set (set frame (20 * s) dtx) (20 * s + 1) dtx))
+      → Front (frameOf digits) blank (putMid (20 * s + 2) (20 * s + 2 + 18 - (20 * s + 2)) (set (set frame (20 * s) dtx) (20 * s + 1) dtx) ys) (20 * (s + 1))
+  slot-written {frame} {ys} f e =
+      let n = blank-length in
+      let f1 = front-store 0 f (let m = front-length f in omega arith) (sym (frame-silent digits (20 * s) (omega arith) (omega arith))) in
+      let f2 = front-store 0 f1 (let m = front-length f1 in omega arith) (sym (frame-silent digits (20 * s + 1) (omega arith) (omega arith))) in
+      let two : 20 * s + 1 + 1 ≡ 20 * s + 2 = omega arith in
+      let f3 = subst (λ (n : ℕ). Front (frameOf digits) blank (set (set frame (20 * s) dtx) (20 * s + 1) dtx) n) two f2 in
+      let src : length (take (18 * s + 18 - 18 * s) (drop (18 * s) digits)) ≡ 18 = part-length digits (18 * s) 18 (omega arith) in
+      let is : take (18 * s + 18 - 18 * s) (drop (18 * s) digits) ≡ take 18 (drop (20 * s + 2) (frameOf digits)) =
+      rw (part-width (18 * s) 18) slot-digits
+      in
+      let next : 20 * s + 2 + 18 ≡ 20 * (s + 1) = omega arith in
+      subst (λ (n : ℕ). Front (frameOf digits) blank (putMid (20 * s + 2) (20 * s + 2 + 18 - (20 * s + 2)) (set (set frame (20 * s) dtx) (20 * s + 1) dtx) ys) n) next
+      (front-copied _ (20 * s + 2) 18 f3 (omega arith) src is e)
+
+pub frame-ends : (digits : List ℕ) {frame : List ℕ} → Front (frameOf digits) blank frame 300 → frame ≡ frameOf digits
+frame-ends digits f = front-all f (let n = blank-length in omega arith)
+
+pub written-length : (digits : List ℕ) {frame : List ℕ} {a : ℕ} → Front (frameOf digits) blank frame a → length frame ≡ 300
+written-length digits f = front-length f ∙ blank-length
 
 -- ---- the data as it is read
 module _ (frame : List ℕ) where
@@ -194,7 +195,7 @@ module _ (digits : List ℕ) (long : length digits ≡ 270) where
       let f2 = front-store 0 f1 (let n = front-length f1 in omega arith) (last-kept 269 (omega arith) (omega arith)) in
       front-all f2 (omega arith)
 
--- ---- what map takes
+-- ---- what map takes, as the scan tells it
 pub fits-taken : (digits : List ℕ) (length1 length2 : ℕ) {i : ℕ} → length digits ≡ 270 → length1 ≡ 300 → length2 ≡ 300
     → i ≡ firstBad (atMost 1 (take 270 digits)) (length (take 270 digits)) → 270 ≤ i → mapVerdict digits length1 length2 ≡ done
 unfolding mapVerdict
@@ -204,3 +205,10 @@ fits-taken digits length1 length2 long h1 h2 e l =
     or-else-pass (unless-pass 3 0 (eq-eqb _ _ long))
     (or-else-pass (unless-pass 3 1 (eq-eqb _ _ h1))
     (or-else-pass (unless-pass 3 2 (eq-eqb _ _ h2)) (each-pass 0 4 _ _ (none-first _ _ (omega (arith, found))))))
+
+pub bits-reach : (digits : List ℕ) {i : ℕ} → length digits ≡ 270 → i ≡ firstBad (atMost 1 (take 270 digits)) (length (take 270 digits))
+    → Every (atMost 1 digits) (length digits) → 270 ≤ i
+bits-reach digits long e bits =
+    let same : take 270 digits ≡ digits = take-all 270 digits (omega arith) in
+    let found = rw same at e in
+    omega (arith, found, first-none (atMost 1 digits) (length digits) bits)

@@ -6,38 +6,30 @@ use run::or_else;
 use run::refusal;
 use run::unless;
 ghost use mathlib.Core.Path.{_≡_};
-ghost use mathlib.Core.Bool.{true};
-ghost use mathlib.Core.List.{_∷_};
+ghost use mathlib.Core.Bool.{true, false};
 ghost use lib.ListN.{length};
-ghost use Rattle.run.specs.Digits.{dtx};
 ghost use Rattle.run.specs.Verdicts.{done};
 ghost use Rattle.pccpch.specs.Rule.{frameOf, coded, secondOf};
 ghost use Rattle.pccpch.specs.Outcome.{mapVerdict, Map};
 
-// A slot of 18 digits behind two of DTX. The digits are held before they are written: so the compiler need not ask whether the runs lie apart, and copies them at once.
-fn write_slot(digits: &[u8], slot: &mut [u8])
-    requires { ⌜ (length (now digits) ≡ 18) × (length (now slot) ≡ 20) ⌝ }
-    ensures { λ _. ⌜ now (slot .exit) ≡ dtx ∷ dtx ∷ now (digits .entry) ⌝ }
-{
-    let mut held = [0u8; 18];
-    write::copy(&mut held, digits);
-    write::copy(&mut slot[2..20], &held);
-    slot[0] = DTX;
-    slot[1] = DTX;
-}
-
-// Slot after slot.
+// The frame starts as DTX, takes each slot's 18 digits behind the slot's first two, and is copied to the lent frame. That the first two are DTX is said again in each
+// slot: so the compiler knows every digit of the frame, and writes the lent one at once.
 fn write_frame(digits: &[u8], antenna: &mut [u8])
     requires { ⌜ (length (now digits) ≡ 270) × (length (now antenna) ≡ 300) ⌝ }
     ensures { λ _. ⌜ now (antenna .exit) ≡ frameOf (now (digits .entry)) ⌝ }
 {
+    let mut frame = [2u8; 300];
     let mut slot = 0;
     while slot < 15 {
         let from = 18 * slot;
-        let to = 20 * slot;
-        write_slot(&digits[from..from + 18], &mut antenna[to..to + 20]);
+        let start = 20 * slot;
+        let to = start + 2;
+        frame[start] = DTX;
+        frame[start + 1] = DTX;
+        write::copy(&mut frame[to..to + 18], &digits[from..from + 18]);
         slot += 1;
     }
+    write::copy(antenna, &frame);
 }
 
 // Antenna 2's digits: STTD over digits 0 to 267 in fours, whatever slots they stand in; the last two stay as they are.
@@ -80,9 +72,10 @@ pub fn second_of(digits: [u8; 270]) -> [u8; 300]
     antenna
 }
 
-// The lengths are right, and every digit is 0 or 1: of 270 digits, and not of as many as there are, it is asked at once.
+// Whether no check refuses: the lengths are right, and every digit is 0 or 1. It is asked of 270 digits, not of as many as there are, and where it holds the lengths are
+// numbers to the compiler.
 fn fits(data: &[u8], length1: usize, length2: usize) -> bool
-    ensures { λ r. ⌜ (r ≡ true → mapVerdict (now («data» .entry)) length1 length2 ≡ done) ⌝ }
+    ensures { λ r. ⌜ (r ≡ true → mapVerdict (now («data» .entry)) length1 length2 ≡ done) × (r ≡ false → mapVerdict (now («data» .entry)) length1 length2 .number ≡ 0 → ⊥) ⌝ }
 {
     if data.len() != 270 {
         return false;
@@ -96,16 +89,9 @@ fn fits(data: &[u8], length1: usize, length2: usize) -> bool
     270 <= scan::first_above(&data[0..270], 1)
 }
 
-// What fits is taken at once. Else the checks in their order find the refusal.
 fn map_verdict(data: &[u8], length1: usize, length2: usize) -> Verdict
     ensures { λ r. ⌜ r ≡ mapVerdict (now («data» .entry)) length1 length2 ⌝ }
 {
-    if fits(data, length1, length2) {
-        return Verdict {
-            number: 0,
-            place: 0,
-        };
-    }
     let digits = found(data, scan::first_above(data, 1), refusal::DIGIT, 0);
     let third = or_else(unless(length2 == 300, refusal::LENGTH, 2), digits);
     let second = or_else(unless(length1 == 300, refusal::LENGTH, 1), third);
@@ -116,10 +102,12 @@ fn map_verdict(data: &[u8], length1: usize, length2: usize) -> Verdict
 pub fn map(data: &[u8], antenna1: &mut [u8], antenna2: &mut [u8]) -> Verdict
     ensures { λ r. ⌜ Map (now («data» .entry)) (now (antenna1 .entry)) (now (antenna2 .entry)) r (now (antenna1 .exit)) (now (antenna2 .exit)) ⌝ }
 {
-    let verdict = map_verdict(data, antenna1.len(), antenna2.len());
-    if verdict.number != 0 {
-        return verdict;
+    if fits(data, antenna1.len(), antenna2.len()) {
+        write_both(data, antenna1, antenna2);
+        return Verdict {
+            number: 0,
+            place: 0,
+        };
     }
-    write_both(data, antenna1, antenna2);
-    verdict
+    map_verdict(data, antenna1.len(), antenna2.len())
 }

@@ -1,17 +1,10 @@
--- `pccpch::map_verdict` meets its contract: what fits is taken, and else the chain of checks is the definition's.
+-- `pccpch::map_verdict` meets its contract: the chain of checks is the definition's.
 -- Assumes nothing.
-use mathlib.Core.Path.{sym}
 use Rattle.run.proofs.Chain.{or-else-is, each-is}
 use Rattle.pccpch.specs.Outcome.{mapVerdict}
 use borrow.Author.Needs.{needs}
 use Rattle.pccpch.proofs.map_verdict.Statement.{statement}
 use Rattle.pccpch.proofs.map_verdict.Tie as tie
-
-fits-requires : tie.Need-fits-requires
-fits-requires c κs = search needs
-
-returns : tie.Need-returns
-returns c = sym (c .before .fits2 .ensures (c .if1 .taken))
 
 first-above-requires : tie.Need-first-above-requires
 first-above-requires c κs = search needs
@@ -37,9 +30,9 @@ unless-requires-3 c κs = search needs
 or-else-requires-3 : tie.Need-or-else-requires-3
 or-else-requires-3 c κs = search needs
 
-returns-2 : tie.Need-returns-2
+returns : tie.Need-returns
 unfolding mapVerdict
-returns-2 c =
+returns c =
     or-else-is (c .or-else3 .ensures) (c .before .unless3 .ensures)
     (or-else-is (c .before .before .or-else2 .ensures) (c .before .before .before .unless2 .ensures)
     (or-else-is (c .before .before .before .before .or-else .ensures) (c .before .before .before .before .before .unless .ensures)
@@ -49,8 +42,6 @@ pub map-verdict-spec : {M : Type 1} → statement M
 map-verdict-spec =
     tie.close
     (tie.spec
-    fits-requires
-    returns
     first-above-requires
     found-requires
     unless-requires
@@ -59,4 +50,4 @@ map-verdict-spec =
     or-else-requires-2
     unless-requires-3
     or-else-requires-3
-    returns-2)
+    returns)

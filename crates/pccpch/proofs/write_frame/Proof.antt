@@ -1,61 +1,71 @@
--- `pccpch::write_frame` meets its contract: each turn writes one slot more.
+-- `pccpch::write_frame` meets its contract: each turn writes one slot of the local frame, which is copied whole at the end.
 -- Assumes nothing.
-use mathlib.Core.Path.{sym, _∙_}
+use mathlib.Core.Path.{_≡_, sym, ap, _∙_}
 use Prim.Native.Nat.{_-_, _*_, _≤_}
 use native.Mathlib.Omega.{arith}
 use borrow.Author.Needs.{needs}
 use denote.Ref.{now}
-use Rattle.run.proofs.Front.{Front, front-none, front-length, front-lent, front-all}
-use Rattle.run.proofs.Lent.{part-length, part-width}
+use lib.ListN.{length, length-set}
+use Rattle.run.proofs.Front.{Front}
+use Rattle.run.proofs.Over.{over-whole}
 use Rattle.pccpch.specs.Rule.{frameOf}
-use Rattle.pccpch.proofs.Laws.{frame-length, slot-written}
+use Rattle.pccpch.proofs.Laws.{frame-length, blank, frame-starts, slot-written, frame-ends, written-length}
 use Rattle.pccpch.proofs.write_frame.Statement.{statement}
 use Rattle.pccpch.proofs.write_frame.Tie as tie
 
 abbrev Inv-loop : tie.InvT-loop
-Inv-loop digits antenna₀ slot₀ antenna slot = (slot ≤ 15) × Front (frameOf digits) antenna₀ antenna (20 * slot)
+Inv-loop digits antenna frame₀ slot₀ frame slot = (slot ≤ 15) × Front (frameOf digits) blank frame (20 * slot)
 
 abbrev μ-loop : tie.MeasureT-loop
-μ-loop digits antenna₀ slot₀ antenna slot = 15 - slot
+μ-loop digits antenna frame₀ slot₀ frame slot = 15 - slot
 
 loop-holds : tie.Need-loop-holds Inv-loop μ-loop
-loop-holds c = (omega arith, front-none (frame-length _ ∙ sym (c .before .before .pre .1)))
+loop-holds c = (omega arith, frame-starts (now (c .before .before .args .digits)))
 
 mul-from : tie.Need-mul-from Inv-loop μ-loop
 mul-from c = omega arith
 
-mul-to : tie.Need-mul-to Inv-loop μ-loop
-mul-to c = omega arith
+mul-start : tie.Need-mul-start Inv-loop μ-loop
+mul-start c = omega arith
 
-add-write-slot : tie.Need-add-write-slot Inv-loop μ-loop
-add-write-slot c = omega arith
+add-to : tie.Need-add-to Inv-loop μ-loop
+add-to c = omega arith
 
-sub-write-slot : tie.Need-sub-write-slot Inv-loop μ-loop
-sub-write-slot c = omega arith
+array-write-frame : tie.Need-array-write-frame Inv-loop μ-loop
+array-write-frame c = omega arith
 
-part-write-slot-start : tie.Need-part-write-slot-start Inv-loop μ-loop
-part-write-slot-start c = omega arith
+add-frame : tie.Need-add-frame Inv-loop μ-loop
+add-frame c = omega arith
 
-part-write-slot-end : tie.Need-part-write-slot-end Inv-loop μ-loop
-part-write-slot-end c = omega arith
+array-write-frame-2 : tie.Need-array-write-frame-2 Inv-loop μ-loop
+array-write-frame-2 c = omega arith
 
-add-write-slot-2 : tie.Need-add-write-slot-2 Inv-loop μ-loop
-add-write-slot-2 c = omega arith
+add-copy : tie.Need-add-copy Inv-loop μ-loop
+add-copy c = omega arith
 
-sub-write-slot-2 : tie.Need-sub-write-slot-2 Inv-loop μ-loop
-sub-write-slot-2 c = omega arith
+sub-copy : tie.Need-sub-copy Inv-loop μ-loop
+sub-copy c = omega arith
 
-part-write-slot-start-2 : tie.Need-part-write-slot-start-2 Inv-loop μ-loop
-part-write-slot-start-2 c = omega arith
+part-frame-start : tie.Need-part-frame-start Inv-loop μ-loop
+part-frame-start c = omega arith
 
-part-write-slot-end-2 : tie.Need-part-write-slot-end-2 Inv-loop μ-loop
-part-write-slot-end-2 c = omega (arith, front-length (c .before .before .loop .inv .1))
+part-frame-end : tie.Need-part-frame-end Inv-loop μ-loop
+part-frame-end c = simp length-set (omega (arith, written-length _ (c .before .loop .inv .1)))
 
-write-slot-requires : tie.Need-write-slot-requires Inv-loop μ-loop
-write-slot-requires c κs =
-    let head = c .before .before .before in
-    let start = head .before .before .before in
-    (part-length (now (start .args .digits)) (18 * head .loop .slot) 18 (omega arith), front-lent _ _ (head .loop .inv .1) (omega arith) ∙ part-width (20 * head .loop .slot) 20)
+add-copy-2 : tie.Need-add-copy-2 Inv-loop μ-loop
+add-copy-2 c = omega arith
+
+sub-copy-2 : tie.Need-sub-copy-2 Inv-loop μ-loop
+sub-copy-2 c = omega arith
+
+part-copy-start : tie.Need-part-copy-start Inv-loop μ-loop
+part-copy-start c = omega arith
+
+part-copy-end : tie.Need-part-copy-end Inv-loop μ-loop
+part-copy-end c = omega arith
+
+copy-requires : tie.Need-copy-requires Inv-loop μ-loop
+copy-requires c κs = search needs
 
 add-slot : tie.Need-add-slot Inv-loop μ-loop
 add-slot c = omega arith
@@ -65,15 +75,26 @@ loop-less c = omega arith
 
 loop-again : tie.Need-loop-again Inv-loop μ-loop
 loop-again c =
-    let turn = c .before .before .before .before .before in
+    let turn = c .before .before .before .before in
     let start = turn .before .before .before .before in
-    (omega arith, slot-written _ (start .pre .0) _ (turn .loop-test .taken) (start .pre .1) (turn .before .loop .inv .1) (c .before .before .write-slot .ensures))
+    (omega arith, slot-written _ (start .pre .0) _ (turn .loop-test .taken) (turn .before .loop .inv .1) (c .before .copy .ensures))
+
+slice-aggregate-copy : tie.Need-slice-aggregate-copy Inv-loop μ-loop
+slice-aggregate-copy c = sym (written-length _ (c .before .before .before .loop .inv .1))
+
+copy-requires-2 : tie.Need-copy-requires-2 Inv-loop μ-loop
+copy-requires-2 c κs = search needs
 
 same-length : tie.Need-same-length Inv-loop μ-loop
-same-length c = front-length (c .before .loop .inv .1)
+same-length c = search needs
 
 returns : tie.Need-returns Inv-loop μ-loop
-returns c = front-all (c .before .loop .inv .1) (omega arith)
+returns c =
+    let head = c .before .before .before .before .before .before in
+    let start = head .before .before .before in
+    let all : 20 * head .loop .slot ≡ 300 = omega arith in
+    let whole = frame-ends _ (rw all at (head .loop .inv .1)) in
+    c .before .before .copy2 .ensures ∙ over-whole _ _ (ap length whole ∙ frame-length _ ∙ sym (start .pre .1)) ∙ whole
 
 pub write-frame-spec : {M : Type 1} → statement M
 write-frame-spec =
@@ -83,18 +104,24 @@ write-frame-spec =
     μ-loop
     loop-holds
     mul-from
-    mul-to
-    add-write-slot
-    sub-write-slot
-    part-write-slot-start
-    part-write-slot-end
-    add-write-slot-2
-    sub-write-slot-2
-    part-write-slot-start-2
-    part-write-slot-end-2
-    write-slot-requires
+    mul-start
+    add-to
+    array-write-frame
+    add-frame
+    array-write-frame-2
+    add-copy
+    sub-copy
+    part-frame-start
+    part-frame-end
+    add-copy-2
+    sub-copy-2
+    part-copy-start
+    part-copy-end
+    copy-requires
     add-slot
     loop-less
     loop-again
+    slice-aggregate-copy
+    copy-requires-2
     same-length
     returns)
