@@ -1,11 +1,11 @@
--- `pccpch::write_frame` meets its contract: each turn copies one slot's digits into the local frame, which is copied whole at the end.
+-- `pccpch::write_frame` meets its contract: each turn writes one slot of the local frame, which is copied whole at the end.
 -- Assumes nothing.
 use mathlib.Core.Path.{_≡_, sym, ap, _∙_}
 use Prim.Native.Nat.{_-_, _*_, _≤_}
 use native.Mathlib.Omega.{arith}
 use borrow.Author.Needs.{needs}
 use denote.Ref.{now}
-use lib.ListN.{length}
+use lib.ListN.{length, length-set}
 use Rattle.run.proofs.Front.{Front}
 use Rattle.run.proofs.Over.{over-whole}
 use Rattle.pccpch.specs.Rule.{frameOf}
@@ -25,11 +25,20 @@ loop-holds c = (omega arith, frame-starts (now (c .before .before .args .digits)
 mul-from : tie.Need-mul-from Inv-loop μ-loop
 mul-from c = omega arith
 
-mul-to : tie.Need-mul-to Inv-loop μ-loop
-mul-to c = omega arith
+mul-start : tie.Need-mul-start Inv-loop μ-loop
+mul-start c = omega arith
 
 add-to : tie.Need-add-to Inv-loop μ-loop
 add-to c = omega arith
+
+array-write-frame : tie.Need-array-write-frame Inv-loop μ-loop
+array-write-frame c = omega arith
+
+add-frame : tie.Need-add-frame Inv-loop μ-loop
+add-frame c = omega arith
+
+array-write-frame-2 : tie.Need-array-write-frame-2 Inv-loop μ-loop
+array-write-frame-2 c = omega arith
 
 add-copy : tie.Need-add-copy Inv-loop μ-loop
 add-copy c = omega arith
@@ -41,7 +50,7 @@ part-frame-start : tie.Need-part-frame-start Inv-loop μ-loop
 part-frame-start c = omega arith
 
 part-frame-end : tie.Need-part-frame-end Inv-loop μ-loop
-part-frame-end c = omega (arith, written-length _ (c .before .loop .inv .1))
+part-frame-end c = simp length-set (omega (arith, written-length _ (c .before .loop .inv .1)))
 
 add-copy-2 : tie.Need-add-copy-2 Inv-loop μ-loop
 add-copy-2 c = omega arith
@@ -95,8 +104,11 @@ write-frame-spec =
     μ-loop
     loop-holds
     mul-from
-    mul-to
+    mul-start
     add-to
+    array-write-frame
+    add-frame
+    array-write-frame-2
     add-copy
     sub-copy
     part-frame-start
