@@ -2,14 +2,14 @@
 -- Assumes nothing.
 use mathlib.Core.Path.{_≡_, refl, sym, ap, _∙_, subst}
 use mathlib.Core.Bool.{Bool, true, false}
-use mathlib.Core.List.{List}
+use mathlib.Core.List.{List, [], append-nil}
 use Prim.Native.Nat.{ℕ, zero, suc, _+_, _-_, _*_, _/_, _%_, _≤_, _<_}
 use native.Mathlib.Nat.{not-suc-le-zero}
 use native.Mathlib.Omega.{arith}
 use borrow.Rule.Slice.PartMut.{putMid, midOf}
 use borrow.Author.Tests.{eqb-true, eqb-false, ltb-true, ltb-false, eq-eqb}
 use lib.Dec.{eqb, ltb}
-use lib.ListN.{length, getD, set, take, drop, replicate, length-set, length-replicate, getD-replicate, take-append-drop, length-drop}
+use lib.ListN.{length, getD, set, take, drop, replicate, length-set, length-replicate, getD-replicate, take-append-drop, length-drop, drop-of-length-le}
 use lib.Seq.{getD-set-same, getD-set-other, getD-drop, length-take-le, take-all}
 use Rattle.run.specs.Digits.{dtx}
 use Rattle.run.specs.First.{firstBad, Every, atMost}
@@ -151,6 +151,12 @@ frame-ends digits f = front-all f (let n = blank-length in omega arith)
 
 pub written-length : (digits : List ℕ) {frame : List ℕ} {a : ℕ} → Front (frameOf digits) blank frame a → length frame ≡ 300
 written-length digits f = front-length f ∙ blank-length
+
+-- the lent frame is lent on whole
+pub lent-whole : (antenna ys : List ℕ) → length antenna ≡ 300 → putMid 0 300 antenna ys ≡ ys
+lent-whole antenna ys h =
+    let none : drop 300 antenna ≡ [] = drop-of-length-le antenna {i = 300} (omega arith) in
+    rw none (append-nil ys)
 
 -- ---- the data as it is read
 module _ (frame : List ℕ) where

@@ -29,7 +29,7 @@ fn write_frame(digits: &[u8], antenna: &mut [u8])
         write::copy(&mut frame[to..to + 18], &digits[from..from + 18]);
         slot += 1;
     }
-    write::copy(antenna, &frame);
+    write::copy(&mut antenna[0..300], &frame);
 }
 
 // Antenna 2's digits: STTD over digits 0 to 267 in fours, whatever slots they stand in; the last two stay as they are.
@@ -40,16 +40,6 @@ fn code(digits: &[u8], out: &mut [u8])
     sttd::encode(&digits[0..268], &mut out[0..268]);
     out[268] = digits[268];
     out[269] = digits[269];
-}
-
-// The frame of antenna 2's digits.
-fn write_second(digits: &[u8], antenna: &mut [u8])
-    requires { ⌜ (length (now digits) ≡ 270) × (length (now antenna) ≡ 300) ⌝ }
-    ensures { λ _. ⌜ now (antenna .exit) ≡ secondOf (now (digits .entry)) ⌝ }
-{
-    let mut coded = [0u8; 270];
-    code(digits, &mut coded);
-    write_frame(&coded, antenna);
 }
 
 // Both frames. Antenna 2's digits come first: they are in memory when they are asked for.
@@ -67,9 +57,10 @@ fn write_both(data: &[u8], antenna1: &mut [u8], antenna2: &mut [u8])
 pub fn second_of(digits: [u8; 270]) -> [u8; 300]
     ensures { λ r. ⌜ r ≡ secondOf digits ⌝ }
 {
-    let mut antenna = [2u8; 300];
-    write_second(&digits, &mut antenna);
-    antenna
+    let mut first = [DTX; 300];
+    let mut second = [DTX; 300];
+    write_both(&digits, &mut first, &mut second);
+    second
 }
 
 // Whether no check refuses: the lengths are right, and every digit is 0 or 1. It is asked of 270 digits, not of as many as there are, and where it holds the lengths are

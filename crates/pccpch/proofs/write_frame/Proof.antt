@@ -6,10 +6,11 @@ use native.Mathlib.Omega.{arith}
 use borrow.Author.Needs.{needs}
 use denote.Ref.{now}
 use lib.ListN.{length, length-set}
+use lib.Seq.{length-take-le}
 use Rattle.run.proofs.Front.{Front}
 use Rattle.run.proofs.Over.{over-whole}
 use Rattle.pccpch.specs.Rule.{frameOf}
-use Rattle.pccpch.proofs.Laws.{frame-length, blank, frame-starts, slot-written, frame-ends, written-length}
+use Rattle.pccpch.proofs.Laws.{frame-length, blank, frame-starts, slot-written, frame-ends, written-length, lent-whole}
 use Rattle.pccpch.proofs.write_frame.Statement.{statement}
 use Rattle.pccpch.proofs.write_frame.Tie as tie
 
@@ -79,6 +80,15 @@ loop-again c =
     let start = turn .before .before .before .before in
     (omega arith, slot-written _ (start .pre .0) _ (turn .loop-test .taken) (turn .before .loop .inv .1) (c .before .copy .ensures))
 
+sub-copy-3 : tie.Need-sub-copy-3 Inv-loop μ-loop
+sub-copy-3 c = omega arith
+
+part-copy-start-2 : tie.Need-part-copy-start-2 Inv-loop μ-loop
+part-copy-start-2 c = omega arith
+
+part-copy-end-2 : tie.Need-part-copy-end-2 Inv-loop μ-loop
+part-copy-end-2 c = omega arith
+
 slice-aggregate-copy : tie.Need-slice-aggregate-copy Inv-loop μ-loop
 slice-aggregate-copy c = sym (written-length _ (c .before .before .before .loop .inv .1))
 
@@ -94,7 +104,8 @@ returns c =
     let start = head .before .before .before in
     let all : 20 * head .loop .slot ≡ 300 = omega arith in
     let whole = frame-ends _ (rw all at (head .loop .inv .1)) in
-    c .before .before .copy2 .ensures ∙ over-whole _ _ (ap length whole ∙ frame-length _ ∙ sym (start .pre .1)) ∙ whole
+    let lent = length-take-le 300 (now (start .args .antenna)) (omega arith) in
+    lent-whole (now (start .args .antenna)) _ (start .pre .1) ∙ c .before .before .copy2 .ensures ∙ over-whole _ _ (ap length whole ∙ frame-length _ ∙ sym lent) ∙ whole
 
 pub write-frame-spec : {M : Type 1} → statement M
 write-frame-spec =
@@ -121,6 +132,9 @@ write-frame-spec =
     add-slot
     loop-less
     loop-again
+    sub-copy-3
+    part-copy-start-2
+    part-copy-end-2
     slice-aggregate-copy
     copy-requires-2
     same-length
