@@ -19,7 +19,7 @@ fn allowed(available: u16, s: usize, indicator: i32) -> bool
     (available as usize >> s) % 2 == 1
 }
 
-// Whether every signature may have its indicator. Those that may not are counted: a sum goes many signatures at a time.
+// Whether every signature may have its indicator. Those that may not are counted, and each indicator is read whether it matters or not: so the loop goes many signatures at a time.
 fn none_stray(available: u16, indicators: &[i32]) -> bool
     requires { ⌜ length (now indicators) ≡ 16 ⌝ }
     ensures { λ r. ⌜ r ≡ all 16 (allows available (now (indicators .entry))) ⌝ }
@@ -27,8 +27,9 @@ fn none_stray(available: u16, indicators: &[i32]) -> bool
     let mut strays = 0u32;
     let mut s = 0;
     while s < 16 {
+        let indicator = indicators[s];
         if (available as usize >> s) % 2 == 0 {
-            if indicators[s] != 0 {
+            if indicator != 0 {
                 strays += 1;
             }
         }

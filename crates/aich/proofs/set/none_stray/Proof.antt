@@ -45,14 +45,14 @@ abbrev μ-loop : tie.MeasureT-loop
 loop-holds : tie.Need-loop-holds Inv-loop μ-loop
 loop-holds c = (omega arith, pass-start)
 
+mul-indicator : tie.Need-mul-indicator Inv-loop μ-loop
+mul-indicator c = search needs
+
+shared-slice-copy-out-indicator : tie.Need-shared-slice-copy-out-indicator Inv-loop μ-loop
+shared-slice-copy-out-indicator c = search needs
+
 shr-if1 : tie.Need-shr-if1 Inv-loop μ-loop
 shr-if1 c = search needs
-
-mul-if2 : tie.Need-mul-if2 Inv-loop μ-loop
-mul-if2 c = search needs
-
-shared-slice-copy-out-if2 : tie.Need-shared-slice-copy-out-if2 Inv-loop μ-loop
-shared-slice-copy-out-if2 c = search needs
 
 add-strays : tie.Need-add-strays Inv-loop μ-loop
 add-strays c = search needs
@@ -65,15 +65,15 @@ loop-less c = search needs
 
 loop-again : tie.Need-loop-again Inv-loop μ-loop
 loop-again c =
-    let head = c .before .before in
+    let head = c .before .before .before in
     let inv = head .loop .inv in
-    let test = c .before .loop-test .taken in
+    let test = c .before .before .loop-test .taken in
     let x = head .before .args .indicators .now in
     let counted : eqb (head .loop .strays + 1) 0 ≡ false = ne-eqb (head .loop .strays + 1) 0 (λ e. omega (arith, e)) in
     ⊎-elim
-    (λ w. rw (w .3, counted) (omega (arith, inv .0), pass-bad (inv .1) test (stray _ x _ (w .0 .taken) (w .2 .taken))))
+    (λ w. rw (w .2, counted) (omega (arith, inv .0), pass-bad (inv .1) test (stray _ x _ (w .0 .taken) (w .1 .taken))))
     (⊎-elim
-    (λ w. rw (w .3) (omega (arith, inv .0), pass-good (inv .1) test (silent _ x _ (w .1 .given) (w .2 .left))))
+    (λ w. rw (w .2) (omega (arith, inv .0), pass-good (inv .1) test (silent _ x _ (c .before .indicator .given) (w .1 .left))))
     (λ w. rw (w .1) (omega (arith, inv .0), pass-good (inv .1) test (offered _ x _ (w .0 .left)))))
     (c .if1 .came)
 
@@ -87,9 +87,9 @@ none-stray-spec =
     Inv-loop
     μ-loop
     loop-holds
+    mul-indicator
+    shared-slice-copy-out-indicator
     shr-if1
-    mul-if2
-    shared-slice-copy-out-if2
     add-strays
     add-s
     loop-less
