@@ -16,7 +16,7 @@ use Rattle.run.proofs.Bools.{and-left, and-right, either}
 use Rattle.run.proofs.Each.{Each, each-take, each-drop, each-append}
 use Rattle.run.proofs.Fields.{field-is, field-length}
 use Rattle.run.proofs.First.{every-by}
-use Rattle.run.proofs.Table.{tab-at, table-test, all-of}
+use Rattle.run.proofs.Table.{by-table, table-test, all-of}
 use Rattle.dpch.specs.declared.Format.{Format}
 use Rattle.dpch.specs.declared.Dpcch.{Dpcch}
 use Rattle.dpch.specs.Formats.{row, formats, formatOf, widths}
@@ -124,11 +124,7 @@ dpcch-formats n =
       two-tpc = λ h. eqb-true _ _ (and-right (eqb (dpcchFormat n .slot) 10) _ (ten-and-two n (omega arith)));
     }
 
--- rules whose tables are the same agree at each place
-by-table : {A : Type 0} (z : A) (n : ℕ) (f g : ℕ → A) → tab n f ≡ tab n g → (k : ℕ) → k < n → f k ≡ g k
-by-table {A} z n f g e k h = sym (tab-at n f k z h) ∙ ap (λ (t : List A). getD t k z) e ∙ tab-at n g k z h
-
--- .. so all six patterns of all fifteen slots are compared at once
+-- all six patterns of all fifteen slots are compared at once
 pub pilots-pinned : PilotsPinned
 unfolding tab table3 table4 printedRow dpcchPilot field cut symbols1 symbols3 wordBits shadowed pinnedBit pinnedPilot
 pilots-pinned bits slot low high h =
@@ -161,11 +157,14 @@ row-bits : (n : ℕ) (row : List ℕ) → is-row n row ≡ true → Each bit row
 unfolding is-row
 row-bits n row e k h = table-test bit 0 refl row (and-right (eqb (length row) n) _ e) k
 
+pub row4-long : (slot : ℕ) → length (getD table4 slot (replicate 15 0)) ≡ 15
+row4-long slot = row-long 15 _ (row4 slot)
+
 printed-long : (slot : ℕ) → length (printedRow slot) ≡ 33
 unfolding printedRow
 printed-long slot =
     let p = row-long 18 _ (row3 slot) in
-    let q = row-long 15 _ (row4 slot) in
+    let q = row4-long slot in
     length-append (getD table3 slot (replicate 18 0)) (getD table4 slot (replicate 15 0)) ∙ omega arith
 
 printed-bits : (slot : ℕ) → Each bit (printedRow slot)

@@ -1,4 +1,4 @@
--- What is known where the checks of numbers and lengths refuse nothing, when they do not, and that their answers fit a packed answer.
+-- What is known where the checks of numbers and lengths refuse nothing, when they do not, that they never tell 6, and that their answers fit a packed answer.
 -- Assumes nothing.
 use mathlib.Core.Path.{_≡_}
 use mathlib.Core.Bool.{Bool, true}
@@ -9,8 +9,10 @@ use borrow.Author.Tests.{leb-true, le-leb}
 use lib.Dec.{lit<}
 use lib.ListN.{length, getD}
 use Rattle.run.specs.First.{Every}
+use Rattle.run.specs.Refusals.{tfciRefused}
 use Rattle.run.specs.Verdicts.{done, Narrow}
 use Rattle.run.proofs.Chain.{or-else-done, unless-done, or-else-pass, unless-pass, AllRight, lengths-two, lengths-done, lengths-pass, check-narrow, lengths-narrow}
+use Rattle.run.proofs.Never.{or-else-never, unless-never, lengths-never}
 use Rattle.dpch.specs.Heads.{frameHead, slotHead}
 
 -- two runs, where nothing is asked of a third and a fourth
@@ -32,6 +34,11 @@ module _ (last format : ℕ) (right : List Bool) where
   pub frame-head-pass : format ≤ last → AllRight right → frameHead last format right ≡ done
   unfolding frameHead
   frame-head-pass h r = or-else-pass (unless-pass 1 0 (le-leb _ _ h)) (lengths-pass right r)
+
+  -- none of them tells 6
+  pub frame-head-never : frameHead last format right .number ≡ tfciRefused → ⊥
+  unfolding frameHead
+  frame-head-never = or-else-never 6 (lit< tt) _ _ (unless-never 6 (lit< tt) _ 1 0 (λ e. omega arith)) (lengths-never 6 (lit< tt) right (λ e. omega arith))
 
   pub frame-head-narrow : length right < 4294967296 → Narrow (frameHead last format right)
   unfolding frameHead
@@ -62,3 +69,9 @@ module _ (last format : ℕ) (right : List Bool) where
     unfolding slotHead
     slot-head-narrow h =
         check-narrow _ 1 0 _ (lit< tt) (lit< tt) (lit< tt) (λ _. check-narrow _ 2 0 _ (lit< tt) (lit< tt) (lit< tt) (λ _. lengths-narrow right h))
+
+    pub slot-head-never : slotHead last format slot right .number ≡ tfciRefused → ⊥
+    unfolding slotHead
+    slot-head-never =
+        or-else-never 6 (lit< tt) _ _ (unless-never 6 (lit< tt) _ 1 0 (λ e. omega arith))
+        (or-else-never 6 (lit< tt) _ _ (unless-never 6 (lit< tt) _ 2 0 (λ e. omega arith)) (lengths-never 6 (lit< tt) right (λ e. omega arith)))

@@ -13,17 +13,19 @@ use Rattle.run.specs.declared.Verdict.{Verdict}
 use Rattle.run.specs.First.{Every, atMost}
 use Rattle.run.specs.Fields.{cut, joined, field}
 use Rattle.run.specs.Parts.{part}
+use Rattle.run.specs.Refusals.{tfciRefused}
 use Rattle.run.specs.Table.{tab}
 use Rattle.run.specs.Verdicts.{done, leaves, Narrow}
 use Rattle.run.proofs.Chain.{or-else-done, each-done, or-else-pass, each-pass, or-else-narrow, each-narrow, leaves-done, leaves-refused}
 use Rattle.run.proofs.Fields.{joined-cut}
+use Rattle.run.proofs.Never.{or-else-never, each-never}
 use Rattle.run.proofs.Parts.{part-length, joined-part}
 use Rattle.run.proofs.Table.{tab-same}
 use Rattle.dpch.specs.Heads.{frameHead}
 use Rattle.dpch.specs.Uplink.{dpdchSize}
 use Rattle.dpch.specs.Layouts.{uplinkDpdch}
 use Rattle.dpch.proofs.Exact.{fields-fill, dpdch-short}
-use Rattle.dpch.proofs.Heads.{head-two, frame-headed, frame-head-pass, frame-head-narrow}
+use Rattle.dpch.proofs.Heads.{head-two, frame-headed, frame-head-pass, frame-head-never, frame-head-narrow}
 use Rattle.dpdch.specs.Rule.{slotOf, dataIn, frameOf, frameDataIn}
 use Rattle.dpdch.specs.Outcome.{slotsVerdict, Carry}
 
@@ -91,6 +93,11 @@ module _ (slots format : ℕ) (input : List ℕ) (outLength : ℕ) where
       let long : length input ≡ slots * dpdchSize format = eqb-true _ _ (p .right-ok 0 (lit< tt)) in
       let small = slots-small slots format few in
       each-narrow 0 4 _ _ (lit< tt) (omega arith))
+
+  -- 6 does not occur
+  pub slots-never : slotsVerdict slots format input outLength .number ≡ tfciRefused → ⊥
+  unfolding slotsVerdict
+  slots-never = or-else-never 6 (lit< tt) _ _ (frame-head-never 6 format _) (each-never 6 (lit< tt) _ 4 _ _ (λ e. omega arith))
 
 -- the head as the code asks for it
 pub head-is : (slots format size a b : ℕ) (r : Verdict) → size ≡ dpdchSize format → r ≡ frameHead 6 format (eqb a (slots * size) ∷ eqb b (slots * size) ∷ true ∷ true ∷ [])

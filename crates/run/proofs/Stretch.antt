@@ -1,22 +1,24 @@
--- Fields as the code lends them, stretch by stretch: a run of fields written, and the fields of a run checked; for any list of widths.
+-- Fields as the code lends them, stretch by stretch: a run of fields written, and the fields of a run checked and taken; for any list of widths.
 -- Assumes nothing.
 use mathlib.Core.Path.{_≡_, sym, ap, _∙_, subst}
 use mathlib.Core.Bool.{Bool}
 use mathlib.Core.List.{List, [], map}
-use Prim.Native.Nat.{ℕ, _+_, _-_, _≤_, _<_}
+use Prim.Native.Nat.{ℕ, _+_, _-_, _≤_, _<_, min}
 use native.Mathlib.Omega.{arith}
 use borrow.Rule.Slice.PartMut.{putMid, midOf}
 use lib.Dec.{leb}
 use lib.ListN.{length, getD, take, drop, replicate}
 use Rattle.run.specs.declared.Verdict.{Verdict}
-use Rattle.run.specs.First.{firstBad}
+use Rattle.run.specs.First.{firstBad, agree}
 use Rattle.run.specs.Fields.{total, joined, field, start}
 use Rattle.run.specs.Verdicts.{unless, each}
 use Rattle.run.specs.Written.{over}
 use Rattle.run.proofs.Chain.{each-is}
 use Rattle.run.proofs.Each.{Each, each-take, each-drop}
 use Rattle.run.proofs.Fields.{field-room, field-is, field-lent, field-joined, field-length, field-at}
+use Rattle.run.proofs.First.{begins-scan}
 use Rattle.run.proofs.Front.{Front, front-fill, front-copy}
+use Rattle.run.proofs.Over.{over-whole}
 
 -- the fields fs, of widths ws, written over a run d₀ of the same length; the stretch of field k is lent from a to e
 module _ {A : Type 0} (ws : List ℕ) (fs : List (List A)) (sized : map length fs ≡ ws) (d₀ : List A) (room : length d₀ ≡ total ws)
@@ -64,3 +66,20 @@ module _ (ws xs : List ℕ) (k a e : ℕ) (h : k < length ws) (p : a ≡ start k
   check-field base number ok i r found is =
       rw (← field-lent k a e ws xs h p q, ← p)
       (each-is (base + a) number (ok (take (e - a) (drop a xs))) (length (take (e - a) (drop a xs))) i r found is)
+
+  -- .. and so where it is compared with what begins with its pattern
+  pub check-pattern : total ws ≤ length xs → (source : ℕ → List ℕ) (pattern : List ℕ) → pattern ≡ take (getD ws k 0) (source (getD ws k 0)) → getD ws k 0 ≤ length (source (getD ws k 0))
+      → (base number i : ℕ) (r : Verdict)
+      → i ≡ firstBad (agree (take (e - a) (drop a xs)) (source (length (take (e - a) (drop a xs)))))
+      (min (length (take (e - a) (drop a xs))) (length (source (length (take (e - a) (drop a xs))))))
+      → r ≡ unless (leb (length (take (e - a) (drop a xs))) i) number (base + a + i)
+      → r ≡ each (base + start k ws) number (agree (field k ws xs) pattern) (length (field k ws xs))
+  check-pattern room source pattern cut enough base number i r found is =
+      let n = lent-long room in
+      check-field base number (λ (s : List ℕ). agree s pattern) i r
+      (found ∙ begins-scan (take (e - a) (drop a xs)) (source (length (take (e - a) (drop a xs)))) pattern (rw n cut) (rw n enough)) is
+
+  -- a copy of it into a run of its length is the field
+  pub field-taken : total ws ≤ length xs → (out y : List ℕ) → length out ≡ getD ws k 0 → y ≡ over (take (e - a) (drop a xs)) out → y ≡ field k ws xs
+  field-taken room out y long is =
+      is ∙ over-whole (take (e - a) (drop a xs)) out (lent-long room ∙ sym long) ∙ field-lent k a e ws xs h p q

@@ -17,10 +17,9 @@ use Rattle.run.specs.Fields.{total, field, start}
 use Rattle.run.specs.Written.{over}
 use Rattle.run.proofs.First.{first-same}
 use Rattle.run.proofs.Chain.{or-else-next, unless-pass, number-0}
-use Rattle.run.proofs.Fields.{joined-length, field-is, field-lent, field-joined, field-length, field-at}
+use Rattle.run.proofs.Fields.{joined-length, field-is, field-joined, field-length, field-at}
 use Rattle.run.proofs.Lent.{part-width}
-use Rattle.run.proofs.Over.{over-whole}
-use Rattle.run.proofs.Stretch.{field-copied, field-filled}
+use Rattle.run.proofs.Stretch.{field-copied, field-filled, field-taken}
 use Rattle.run.proofs.Front.{Front, front-none, front-copy, front-lent, front-all}
 use Rattle.dpch.specs.declared.Format.{Format}
 use Rattle.dpch.specs.Formats.{formatOf, widths}
@@ -169,10 +168,6 @@ module _ (f : Format) (s : Sound f) (slot tpc : ℕ) (d tfci : List ℕ) (data-l
         pilot-written (after4 y1 y2 y3 y4) y5
         (data2-written (after3 y1 y2 y3) y4 rest r (tfci-written (after2 y1 y2) y3 (tpc-written (after1 y1) y2 (data1-written y1 e1) e2) e3) e4) e5
 
--- a run's part from a to its end is what is left of it
-pub rest-of : (a : ℕ) (xs : List ℕ) → take (length xs - a) (drop a xs) ≡ drop a xs
-rest-of a xs = take-all (length xs - a) (drop a xs) (simp length-drop (omega arith))
-
 -- the fields of a whole slot have their lengths
 module _ (f : Format) (xs : List ℕ) (w : Whole f (length xs)) where
   pub field-long : (k : ℕ) → k < 5 → length (field k (widths f) xs) ≡ getD (widths f) k 0
@@ -219,8 +214,9 @@ module _ (f : Format) (xs : List ℕ) (w : Whole f (length xs)) where
   pub tfci-taken : (out y : List ℕ) → length out ≡ f .tfci → y ≡ over (take (f .data1 + f .tpc + f .tfci - (f .data1 + f .tpc)) (drop (f .data1 + f .tpc) xs)) out
       → y ≡ tfciIn f xs
   tfci-taken out y long e =
-      let lent = field-lent 2 (f .data1 + f .tpc) (f .data1 + f .tpc + f .tfci) (widths f) xs (lit< tt) (sym (start-tfci f)) refl in
-      e ∙ rw lent (over-whole (field 2 (widths f) xs) out (field-long 2 (lit< tt) ∙ sym long))
+      let fills = w .sound .fills in
+      let whole = w .slot-ok in
+      field-taken (widths f) xs 2 (f .data1 + f .tpc) (f .data1 + f .tpc + f .tfci) (lit< tt) (sym (start-tfci f)) refl (omega arith) out y long e
 
 pub data-small : (format : ℕ) → dataSize (formatOf format) ≤ 1280
 data-small format =

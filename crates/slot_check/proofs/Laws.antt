@@ -1,8 +1,8 @@
 -- A slot's pilot, compared in its lent stretch.
 -- Assumes nothing.
-use mathlib.Core.Path.{_≡_, _∙_}
+use mathlib.Core.Path.{_≡_}
 use mathlib.Core.List.{List}
-use Prim.Native.Nat.{ℕ, _+_, _-_, _<_, min}
+use Prim.Native.Nat.{ℕ, _+_, _-_, min}
 use native.Mathlib.Omega.{arith}
 use lib.ListN.{length, take, drop}
 use lib.Dec.{leb, lit<}
@@ -10,21 +10,12 @@ use Rattle.run.specs.declared.Verdict.{Verdict}
 use Rattle.run.specs.First.{firstBad, agree}
 use Rattle.run.specs.Verdicts.{unless, each}
 use Rattle.run.specs.Fields.{start}
-use Rattle.run.proofs.First.{begins-scan}
-use Rattle.run.proofs.Stretch.{lent-long, check-field}
+use Rattle.run.proofs.Stretch.{check-pattern}
 use Rattle.dpch.specs.declared.Format.{Format}
 use Rattle.dpch.specs.Formats.{widths}
 use Rattle.dpch.specs.Pilots.{pilotSource, pilotOf}
 use Rattle.slot.specs.Rule.{pilotIn}
-use Rattle.slot.specs.Ready.{Sound, Whole}
-
--- a pilot field is compared with the pilot
-pilot-scan : (f : Format) (s : Sound f) (slot : ℕ) (xs : List ℕ) → length xs ≡ f .pilot
-    → firstBad (agree xs (pilotSource (length xs) slot)) (min (length xs) (length (pilotSource (length xs) slot)))
-    ≡ firstBad (agree xs (pilotOf (f .pilot) slot)) (length xs)
-pilot-scan f s slot xs long =
-    let p = s .pilot slot in
-    begins-scan xs (pilotSource (length xs) slot) (pilotOf (f .pilot) slot) (rw long (p .cut-from)) (rw long (p .enough))
+use Rattle.slot.specs.Ready.{Whole}
 
 pub check-pilot : (f : Format) (xs : List ℕ) (w : Whole f (length xs)) (slot a e : ℕ) → a ≡ start 4 (widths f) → e ≡ a + f .pilot → (base number i : ℕ) (r : Verdict)
     → i ≡ firstBad (agree (take (e - a) (drop a xs)) (pilotSource (length (take (e - a) (drop a xs))) slot))
@@ -32,5 +23,6 @@ pub check-pilot : (f : Format) (xs : List ℕ) (w : Whole f (length xs)) (slot a
     → r ≡ unless (leb (length (take (e - a) (drop a xs))) i) number (base + a + i)
     → r ≡ each (base + start 4 (widths f)) number (agree (pilotIn f xs) (pilotOf (f .pilot) slot)) (length (pilotIn f xs))
 check-pilot f xs w slot a e p q base number i r found is =
-    check-field (widths f) xs 4 a e (lit< tt) p q base number (λ (s : List ℕ). agree s (pilotOf (f .pilot) slot)) i r
-    (found ∙ pilot-scan f (w .sound) slot (take (e - a) (drop a xs)) (lent-long (widths f) xs 4 a e (lit< tt) p q (let fills = w .sound .fills in let long = w .slot-ok in omega arith))) is
+    let cut = w .sound .pilot slot in
+    check-pattern (widths f) xs 4 a e (lit< tt) p q (let fills = w .sound .fills in let long = w .slot-ok in omega arith)
+    (λ (n : ℕ). pilotSource n slot) (pilotOf (f .pilot) slot) (cut .cut-from) (cut .enough) base number i r found is
