@@ -13,7 +13,7 @@ use Rattle.run.specs.First.{all, Every}
 use Rattle.run.specs.Ranges.{inRange}
 use Rattle.run.specs.Refusals.{valuesRefused}
 use Rattle.run.specs.Verdicts.{refused, done, unless}
-use Rattle.run.proofs.Chain.{or-else-done, unless-done, each-done, or-else-next, or-else-refused, or-else-pass, unless-pass, leaves-done, leaves-refused}
+use Rattle.run.proofs.Chain.{or-else-done, unless-done, each-done, or-else-next, or-else-refused, or-else-pass, unless-pass, each-pass, leaves-done, leaves-refused}
 use Rattle.run.proofs.Ranges.{range-parts}
 use Rattle.whole.proofs.Bound.{b-range}
 use Rattle.aich.specs.Rule.{indicatorsIn}
@@ -44,6 +44,16 @@ taken indicators valuesLength h =
       indicators-ok = units indicators e (rw e at (each-done 0 11 (inRange (negsuc 0) (pos 1) indicators) (length indicators) (omega arith) (c2 .rest)));
       values-ok = eqb-true _ _ (unless-done _ 3 1 (omega arith) (c2 .first));
     }
+
+-- indicators that are taken are answered as done
+pub taken-done : (indicators : List ℤ) (valuesLength : ℕ) → mapVerdict indicators valuesLength .number ≡ 0 → done ≡ mapVerdict indicators valuesLength
+unfolding mapVerdict
+taken-done indicators valuesLength h =
+    let c1 = or-else-done _ _ h in
+    let c2 = or-else-done _ _ (c1 .rest) in
+    sym (or-else-pass (unless-pass 3 0 (unless-done _ 3 0 (omega arith) (c1 .first)))
+    (or-else-pass (unless-pass 3 1 (unless-done _ 3 1 (omega arith) (c2 .first)))
+    (each-pass 0 11 _ _ (each-done 0 11 (inRange (negsuc 0) (pos 1) indicators) (length indicators) (omega arith) (c2 .rest)))))
 
 pub record Headed (valuesLength indicatorsLength : ℕ) : Type 0 where
   pub values-ok : valuesLength ≡ 32

@@ -3,7 +3,7 @@
 -- Assumes nothing.
 use mathlib.Core.Path.{_≡_, refl, sym, ap, ap₂, _∙_}
 use mathlib.Core.Bool.{Bool, true, false, cond}
-use mathlib.Core.List.{List}
+use mathlib.Core.List.{List, [], _∷_}
 use Prim.Native.Nat.{ℕ, zero, suc, _+_, _*_, _-_, _/_, _%_, _≤_, _<_, _^_}
 use native.Mathlib.Nat.{two-pow-succ, pow-suc, suc-mul, mul-add, add-mul, mul-assoc, mul-left-comm, mul-le-mul-right, not-suc-le-zero, le-of-suc-le-suc}
 use native.Mathlib.Omega.{arith}
@@ -19,6 +19,7 @@ use Rattle.run.proofs.Table.{tab-length, tab-at, tab-is, tab-same}
 use Rattle.whole.specs.Bound.{Bounded}
 use Rattle.whole.proofs.Bound.{b-sum, b-diff, b-weaken}
 use Rattle.whole.proofs.Bits.{Reads, r-in, fits-sum, r-sum, fits-diff, r-diff}
+use Rattle.whole.proofs.Ring.{solve, quoted, ring}
 use Rattle.whole.proofs.Sum.{sum-same}
 use Rattle.signature.specs.Rule.{sign}
 use Rattle.signature.specs.Folding.{paritySum, sums, differences, folds}
@@ -195,3 +196,128 @@ module _ (w : Width) (x : List ℤ) (B i : ℕ) (p : Sixteen B x) (room : B + B 
       let m = front-length one in
       let next : 2 * i + 1 + 1 ≡ 2 * (i + 1) = omega arith in
       rw (← next) (front-store (pos 0) one (omega arith) (r-diff first second room .is ∙ odd x i h))
+
+-- ---- two foldings at a time: entries k, k + 4, k + 8 and k + 12 give four neighbours
+
+regroup : (a b c d : ℤ)
+    → (a +ℤ b +ℤ (c +ℤ d) ≡ a +ℤ c +ℤ (b +ℤ d))
+    × (a -ℤ b +ℤ (c -ℤ d) ≡ a +ℤ c -ℤ (b +ℤ d))
+    × (a +ℤ b -ℤ (c +ℤ d) ≡ a -ℤ c +ℤ (b -ℤ d))
+    × (a -ℤ b -ℤ (c -ℤ d) ≡ a -ℤ c -ℤ (b -ℤ d))
+regroup a b c d =
+    ring (a ∷ b ∷ c ∷ d ∷ [])
+    (λ ρ p₀ p₁ p₂ p₃. simp (p₀, p₁, p₂, p₃, quoted) (solve ρ _ _ tt, solve ρ _ _ tt, solve ρ _ _ tt, solve ρ _ _ tt))
+
+module _ (x : List ℤ) (k : ℕ) (h : k < 4) where
+  abbrev again : List ℤ
+  again = folded (folded x)
+
+  abbrev grouped : (entry x k +ℤ entry x (k + 4) +ℤ (entry x (k + 8) +ℤ entry x (k + 12)) ≡ entry x k +ℤ entry x (k + 8) +ℤ (entry x (k + 4) +ℤ entry x (k + 12)))
+      × (entry x k -ℤ entry x (k + 4) +ℤ (entry x (k + 8) -ℤ entry x (k + 12)) ≡ entry x k +ℤ entry x (k + 8) -ℤ (entry x (k + 4) +ℤ entry x (k + 12)))
+      × (entry x k +ℤ entry x (k + 4) -ℤ (entry x (k + 8) +ℤ entry x (k + 12)) ≡ entry x k -ℤ entry x (k + 8) +ℤ (entry x (k + 4) -ℤ entry x (k + 12)))
+      × (entry x k -ℤ entry x (k + 4) -ℤ (entry x (k + 8) -ℤ entry x (k + 12)) ≡ entry x k -ℤ entry x (k + 8) -ℤ (entry x (k + 4) -ℤ entry x (k + 12)))
+  grouped = regroup (entry x k) (entry x (k + 4)) (entry x (k + 8)) (entry x (k + 12))
+
+  far : k + 4 + 8 ≡ k + 12
+  far = omega arith
+
+  sum-near : entry x k +ℤ entry x (k + 8) ≡ entry (folded x) (2 * k)
+  sum-near = even x k (omega arith)
+
+  sum-far : entry x (k + 4) +ℤ entry x (k + 12) ≡ entry (folded x) (2 * k + 8)
+  sum-far = let i : 2 * (k + 4) ≡ 2 * k + 8 = omega arith in rw (far, i) at (even x (k + 4) (omega arith))
+
+  less-near : entry x k -ℤ entry x (k + 8) ≡ entry (folded x) (2 * k + 1)
+  less-near = odd x k (omega arith)
+
+  less-far : entry x (k + 4) -ℤ entry x (k + 12) ≡ entry (folded x) (2 * k + 1 + 8)
+  less-far = let i : 2 * (k + 4) + 1 ≡ 2 * k + 1 + 8 = omega arith in rw (far, i) at (odd x (k + 4) (omega arith))
+
+  pub first-of-four : entry x k +ℤ entry x (k + 4) +ℤ (entry x (k + 8) +ℤ entry x (k + 12)) ≡ entry again (4 * k)
+  first-of-four =
+      let i : 2 * (2 * k) ≡ 4 * k = omega arith in
+      grouped .0 ∙ ap₂ (λ (u v : ℤ). u +ℤ v) sum-near sum-far ∙ rw i at (even (folded x) (2 * k) (omega arith))
+
+  pub second-of-four : entry x k -ℤ entry x (k + 4) +ℤ (entry x (k + 8) -ℤ entry x (k + 12)) ≡ entry again (4 * k + 1)
+  second-of-four =
+      let i : 2 * (2 * k) + 1 ≡ 4 * k + 1 = omega arith in
+      grouped .1 ∙ ap₂ (λ (u v : ℤ). u -ℤ v) sum-near sum-far ∙ rw i at (odd (folded x) (2 * k) (omega arith))
+
+  pub third-of-four : entry x k +ℤ entry x (k + 4) -ℤ (entry x (k + 8) +ℤ entry x (k + 12)) ≡ entry again (4 * k + 2)
+  third-of-four =
+      let i : 2 * (2 * k + 1) ≡ 4 * k + 2 = omega arith in
+      grouped .2 ∙ ap₂ (λ (u v : ℤ). u +ℤ v) less-near less-far ∙ rw i at (even (folded x) (2 * k + 1) (omega arith))
+
+  pub fourth-of-four : entry x k -ℤ entry x (k + 4) -ℤ (entry x (k + 8) -ℤ entry x (k + 12)) ≡ entry again (4 * k + 3)
+  fourth-of-four =
+      let i : 2 * (2 * k + 1) + 1 ≡ 4 * k + 3 = omega arith in
+      grouped .3 ∙ ap₂ (λ (u v : ℤ). u -ℤ v) less-near less-far ∙ rw i at (odd (folded x) (2 * k + 1) (omega arith))
+
+-- four numbers of a width that has room for their sum, as the code reads them
+pub record Four (w : Width) (a b c d : ℤ) : Type 0 where
+  pub bound : ℕ
+  pub a-in : Bounded bound a
+  pub b-in : Bounded bound b
+  pub c-in : Bounded bound c
+  pub d-in : Bounded bound d
+  pub room : bound + bound + (bound + bound) < 2 ^ hbits w
+
+module _ {w : Width} {a b c d : ℤ} (f : Four w a b c d) where
+  abbrev more : ℕ → ℕ → ℕ
+  more m n = ofZ w (toZ w m +ℤ toZ w n)
+
+  abbrev less : ℕ → ℕ → ℕ
+  less m n = ofZ w (toZ w m -ℤ toZ w n)
+
+  module _ (x : ℤ) (l : Bounded (f .bound) x) where
+    read : Reads w (ofZ w x) x (f .bound)
+    read = r-in l (omega (arith, f .room))
+
+  module _ (x y : ℤ) (l : Bounded (f .bound) x) (m : Bounded (f .bound) y) where
+    two-add : SFits w (toZ w (ofZ w x) +ℤ toZ w (ofZ w y))
+    two-add = fits-sum (read x l) (read y m) (omega (arith, f .room))
+
+    two-subtract : SFits w (toZ w (ofZ w x) -ℤ toZ w (ofZ w y))
+    two-subtract = fits-diff (read x l) (read y m) (omega (arith, f .room))
+
+    added : Reads w (more (ofZ w x) (ofZ w y)) (x +ℤ y) (f .bound + f .bound)
+    added = r-sum (read x l) (read y m) (omega (arith, f .room))
+
+    subtracted : Reads w (less (ofZ w x) (ofZ w y)) (x -ℤ y) (f .bound + f .bound)
+    subtracted = r-diff (read x l) (read y m) (omega (arith, f .room))
+
+  pub ab-add : SFits w (toZ w (ofZ w a) +ℤ toZ w (ofZ w b))
+  ab-add = two-add a b (f .a-in) (f .b-in)
+
+  pub ab-less : SFits w (toZ w (ofZ w a) -ℤ toZ w (ofZ w b))
+  ab-less = two-subtract a b (f .a-in) (f .b-in)
+
+  pub cd-add : SFits w (toZ w (ofZ w c) +ℤ toZ w (ofZ w d))
+  cd-add = two-add c d (f .c-in) (f .d-in)
+
+  pub cd-less : SFits w (toZ w (ofZ w c) -ℤ toZ w (ofZ w d))
+  cd-less = two-subtract c d (f .c-in) (f .d-in)
+
+  pub first-fits : SFits w (toZ w (more (ofZ w a) (ofZ w b)) +ℤ toZ w (more (ofZ w c) (ofZ w d)))
+  first-fits = fits-sum (added a b (f .a-in) (f .b-in)) (added c d (f .c-in) (f .d-in)) (f .room)
+
+  pub second-fits : SFits w (toZ w (less (ofZ w a) (ofZ w b)) +ℤ toZ w (less (ofZ w c) (ofZ w d)))
+  second-fits = fits-sum (subtracted a b (f .a-in) (f .b-in)) (subtracted c d (f .c-in) (f .d-in)) (f .room)
+
+  pub third-fits : SFits w (toZ w (more (ofZ w a) (ofZ w b)) -ℤ toZ w (more (ofZ w c) (ofZ w d)))
+  third-fits = fits-diff (added a b (f .a-in) (f .b-in)) (added c d (f .c-in) (f .d-in)) (f .room)
+
+  pub fourth-fits : SFits w (toZ w (less (ofZ w a) (ofZ w b)) -ℤ toZ w (less (ofZ w c) (ofZ w d)))
+  fourth-fits = fits-diff (subtracted a b (f .a-in) (f .b-in)) (subtracted c d (f .c-in) (f .d-in)) (f .room)
+
+  pub first-is : toZ w (more (more (ofZ w a) (ofZ w b)) (more (ofZ w c) (ofZ w d))) ≡ a +ℤ b +ℤ (c +ℤ d)
+  first-is = r-sum (added a b (f .a-in) (f .b-in)) (added c d (f .c-in) (f .d-in)) (f .room) .is
+
+  pub second-is : toZ w (more (less (ofZ w a) (ofZ w b)) (less (ofZ w c) (ofZ w d))) ≡ a -ℤ b +ℤ (c -ℤ d)
+  second-is = r-sum (subtracted a b (f .a-in) (f .b-in)) (subtracted c d (f .c-in) (f .d-in)) (f .room) .is
+
+  pub third-is : toZ w (less (more (ofZ w a) (ofZ w b)) (more (ofZ w c) (ofZ w d))) ≡ a +ℤ b -ℤ (c +ℤ d)
+  third-is = r-diff (added a b (f .a-in) (f .b-in)) (added c d (f .c-in) (f .d-in)) (f .room) .is
+
+  pub fourth-is : toZ w (less (less (ofZ w a) (ofZ w b)) (less (ofZ w c) (ofZ w d))) ≡ a -ℤ b -ℤ (c -ℤ d)
+  fourth-is = r-diff (subtracted a b (f .a-in) (f .b-in)) (subtracted c d (f .c-in) (f .d-in)) (f .room) .is

@@ -1,4 +1,5 @@
 pub mod Folding
+pub mod Square
 pub mod Laws
 pub mod Reading
 pub mod Checks

@@ -27,6 +27,11 @@ foldAt x k = cond (eqb (k % 2) 0) (x (k / 2) +ℤ x (k / 2 + 8)) (x (k / 2) -ℤ
 unfoldable pub folded : List ℤ → List ℤ
 folded x = tab 16 (foldAt (λ (k : ℕ). getD x k (pos 0)))
 
+-- the first m columns of y, a square of four by four, are the rows of what two foldings of x give
+pub record Turned (m : ℕ) (x y : List ℤ) : Type 0 where
+  pub long : length y ≡ 16
+  pub at : (k t : ℕ) → k < m → t < 4 → getD y (k + 4 * t) (pos 0) ≡ getD (folded (folded x)) (4 * k + t) (pos 0)
+
 -- one value of each pair that the indicators give
 unfoldable pub halfOf : List ℤ → List ℤ
 halfOf indicators = tab 16 (λ (k : ℕ). valueAt indicators (2 * k))

@@ -4,7 +4,7 @@ ghost use mathlib.Core.Path.{_≡_};
 ghost use mathlib.Core.Bool.{_||_};
 ghost use lib.ListN.{length};
 ghost use lib.IntN.{pos};
-ghost use Rattle.run.specs.First.{firstBad};
+ghost use Rattle.run.specs.First.{firstBad, all};
 ghost use Rattle.whole.specs.Equal.{eqZ};
 ghost use Rattle.aich.specs.Rule.{offers, allows};
 
@@ -19,12 +19,33 @@ fn allowed(available: u16, s: usize, indicator: i32) -> bool
     (available as usize >> s) % 2 == 1
 }
 
-// The lowest signature that may not have its indicator, or 16. The signatures are gone through from the highest on with no early way out: so no branch
-// depends on the indicators.
+// Whether every signature may have its indicator. Those that may not are counted, and each indicator is read whether it matters or not: so the loop goes many signatures at a time.
+fn none_stray(available: u16, indicators: &[i32]) -> bool
+    requires { ⌜ length (now indicators) ≡ 16 ⌝ }
+    ensures { λ r. ⌜ r ≡ all 16 (allows available (now (indicators .entry))) ⌝ }
+{
+    let mut strays = 0u32;
+    let mut s = 0;
+    while s < 16 {
+        let indicator = indicators[s];
+        if (available as usize >> s) % 2 == 0 {
+            if indicator != 0 {
+                strays += 1;
+            }
+        }
+        s += 1;
+    }
+    strays == 0
+}
+
+// The lowest signature that may not have its indicator, or 16. Where there is one, the signatures are gone through from the highest on.
 pub(crate) fn first_stray(available: u16, indicators: &[i32]) -> usize
     requires { ⌜ length (now indicators) ≡ 16 ⌝ }
     ensures { λ r. ⌜ r ≡ firstBad (allows available (now (indicators .entry))) 16 ⌝ }
 {
+    if none_stray(available, indicators) {
+        return 16;
+    }
     let mut first = 16;
     let mut i = 0;
     while i < 16 {

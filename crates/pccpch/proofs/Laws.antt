@@ -2,25 +2,30 @@
 -- Assumes nothing.
 use mathlib.Core.Path.{_≡_, refl, sym, ap, _∙_, subst}
 use mathlib.Core.Bool.{Bool, true, false}
-use mathlib.Core.List.{List}
+use mathlib.Core.List.{List, [], append-nil}
 use Prim.Native.Nat.{ℕ, zero, suc, _+_, _-_, _*_, _/_, _%_, _≤_, _<_}
 use native.Mathlib.Nat.{not-suc-le-zero}
 use native.Mathlib.Omega.{arith}
 use borrow.Rule.Slice.PartMut.{putMid, midOf}
-use borrow.Author.Tests.{eqb-true, eqb-false, ltb-true, ltb-false}
+use borrow.Author.Tests.{eqb-true, eqb-false, ltb-true, ltb-false, eq-eqb}
 use lib.Dec.{eqb, ltb}
-use lib.ListN.{length, getD, set, take, drop, replicate, length-set, length-replicate, getD-replicate, take-append-drop, length-drop}
-use lib.Seq.{getD-set-same, getD-set-other, getD-drop, length-take-le}
+use lib.ListN.{length, getD, set, take, drop, replicate, length-set, length-replicate, getD-replicate, take-append-drop, length-drop, drop-of-length-le}
+use lib.Seq.{getD-set-same, getD-set-other, getD-drop, length-take-le, take-all}
 use Rattle.run.specs.Digits.{dtx}
+use Rattle.run.specs.First.{firstBad, Every, atMost}
+use Rattle.run.specs.Verdicts.{done}
 use Rattle.run.specs.Written.{over}
-use Rattle.run.proofs.Front.{Front, front-none, front-length, front-all}
-use Rattle.run.proofs.Lent.{part-width, part-length, same-part, front-same, front-copied}
+use Rattle.run.proofs.Chain.{or-else-pass, unless-pass, each-pass}
+use Rattle.run.proofs.First.{first-none, none-first}
+use Rattle.run.proofs.Front.{Front, front-none, front-length, front-part, front-store, front-all}
+use Rattle.run.proofs.Lent.{part-width, part-length, same-part, front-copied}
 use Rattle.run.proofs.Table.{tab-length, tab-at}
 use Rattle.sttd.specs.Rule.{sttd, barDigit}
 use Rattle.sttd.specs.Outcome.{encodedOver}
-use Rattle.sttd.proofs.Laws.{sttd-short, sttd-take, sttd-drop, tail-kept}
+use Rattle.sttd.proofs.Laws.{sttd-length, sttd-short, sttd-take, sttd-drop, tail-kept}
 use Rattle.sttd.proofs.Runs.{encoded-whole}
 use Rattle.pccpch.specs.Rule.{place, filled, frameOf, coded, secondOf, dataIn}
+use Rattle.pccpch.specs.Outcome.{mapVerdict}
 
 -- ---- the position rule
 pub place-within : (d : ℕ) → d < 270 → place d < 300
@@ -109,10 +114,6 @@ blank-length : length blank ≡ 300
 unfolding blank
 blank-length = length-replicate {A = ℕ} 300 2
 
-blank-at : (k : ℕ) → k < 300 → getD blank k 0 ≡ dtx
-unfolding blank
-blank-at k h = getD-replicate {A = ℕ} 300 k 2 0 h
-
 pub frame-starts : (digits : List ℕ) → Front (frameOf digits) blank (replicate 300 dtx) 0
 unfolding blank
 frame-starts digits = front-none (frame-length digits ∙ blank-length)
@@ -127,32 +128,35 @@ module _ (digits : List ℕ) (long : length digits ≡ 270) (s : ℕ) (h : s < 1
       let there : place (18 * s + j) ≡ 20 * s + 2 + j = omega arith in
       sym (frame-at digits (18 * s + j) (omega arith)) ∙ ap (λ (n : ℕ). getD (frameOf digits) n 0) there)
 
-  -- its first two are DTX as they were
-  slot-starts : take 2 (drop (20 * s) (frameOf digits)) ≡ take 2 (drop (20 * s) blank)
-  slot-starts =
-      let n = frame-length digits in
-      let m = blank-length in
-      same-part 0 (frameOf digits) blank (20 * s) (20 * s) 2 (omega arith) (omega arith)
-      (λ j l. frame-silent digits (20 * s + j) (omega arith) (omega arith) ∙ sym (blank-at (20 * s + j) (omega arith)))
-
+  -- its first two are stored, and its digits copied behind them
   pub slot-written : {frame ys : List ℕ} → Front (frameOf digits) blank frame (20 * s)
-      → ys ≡ over (take (18 * s + 18 - 18 * s) (drop (18 * s) digits)) (midOf (20 * s + 2) (20 * s + 2 + 18 - (20 * s + 2)) frame)
-      → Front (frameOf digits) blank (putMid (20 * s + 2) (20 * s + 2 + 18 - (20 * s + 2)) frame ys) (20 * (s + 1))
+      → ys ≡ over (take (18 * s + 18 - 18 * s) (drop (18 * s) digits)) (midOf (20 * s + 2) (20 * s + 2 + 18 - (20 * s + 2)) (set (set frame (20 * s) dtx) (20 * s + 1) dtx))
+      → Front (frameOf digits) blank (putMid (20 * s + 2) (20 * s + 2 + 18 - (20 * s + 2)) (set (set frame (20 * s) dtx) (20 * s + 1) dtx) ys) (20 * (s + 1))
   slot-written {frame} {ys} f e =
       let n = blank-length in
+      let f1 = front-store 0 f (let m = front-length f in omega arith) (sym (frame-silent digits (20 * s) (omega arith) (omega arith))) in
+      let f2 = front-store 0 f1 (let m = front-length f1 in omega arith) (sym (frame-silent digits (20 * s + 1) (omega arith) (omega arith))) in
+      let two : 20 * s + 1 + 1 ≡ 20 * s + 2 = omega arith in
+      let f3 = subst (λ (n : ℕ). Front (frameOf digits) blank (set (set frame (20 * s) dtx) (20 * s + 1) dtx) n) two f2 in
       let src : length (take (18 * s + 18 - 18 * s) (drop (18 * s) digits)) ≡ 18 = part-length digits (18 * s) 18 (omega arith) in
       let is : take (18 * s + 18 - 18 * s) (drop (18 * s) digits) ≡ take 18 (drop (20 * s + 2) (frameOf digits)) =
       rw (part-width (18 * s) 18) slot-digits
       in
       let next : 20 * s + 2 + 18 ≡ 20 * (s + 1) = omega arith in
-      subst (λ (n : ℕ). Front (frameOf digits) blank (putMid (20 * s + 2) (20 * s + 2 + 18 - (20 * s + 2)) frame ys) n) next
-      (front-copied _ (20 * s + 2) 18 (front-same 2 f (omega arith) slot-starts) (omega arith) src is e)
+      subst (λ (n : ℕ). Front (frameOf digits) blank (putMid (20 * s + 2) (20 * s + 2 + 18 - (20 * s + 2)) (set (set frame (20 * s) dtx) (20 * s + 1) dtx) ys) n) next
+      (front-copied _ (20 * s + 2) 18 f3 (omega arith) src is e)
 
 pub frame-ends : (digits : List ℕ) {frame : List ℕ} → Front (frameOf digits) blank frame 300 → frame ≡ frameOf digits
 frame-ends digits f = front-all f (let n = blank-length in omega arith)
 
 pub written-length : (digits : List ℕ) {frame : List ℕ} {a : ℕ} → Front (frameOf digits) blank frame a → length frame ≡ 300
 written-length digits f = front-length f ∙ blank-length
+
+-- the lent frame is lent on whole
+pub lent-whole : (antenna ys : List ℕ) → length antenna ≡ 300 → putMid 0 300 antenna ys ≡ ys
+lent-whole antenna ys h =
+    let none : drop 300 antenna ≡ [] = drop-of-length-le antenna {i = 300} (omega arith) in
+    rw none (append-nil ys)
 
 -- ---- the data as it is read
 module _ (frame : List ℕ) where
@@ -181,11 +185,36 @@ module _ (digits : List ℕ) (long : length digits ≡ 270) where
       let kept = tail-kept barDigit digits 67 (omega arith) in
       rw (coded-is, ← is) (sym (getD-drop 268 digits (d - 268) 0) ∙ ap (λ (t : List ℕ). getD t (d - 268) 0) (sym kept) ∙ getD-drop 268 (sttd barDigit digits) (d - 268) 0)
 
-  -- the digits are copied, and the encoder leaves its blocks in the first 268 of the copy
-  pub code-stands : {d ys : List ℕ} → d ≡ digits → ys ≡ encodedOver (take 268 digits) (midOf 0 268 d) → putMid 0 268 d ys ≡ coded digits
-  unfolding coded
-  code-stands {d} {ys} e f =
+  coded-length : length (coded digits) ≡ 270
+  coded-length = rw coded-is (sttd-length barDigit digits ∙ long)
+
+  -- the encoder leaves its blocks in the first 268 of the run, and the last two are stored
+  pub code-stands : (out ys : List ℕ) → length out ≡ 270 → ys ≡ encodedOver (take 268 digits) (midOf 0 268 out)
+      → set (set (putMid 0 268 out ys) 268 (getD digits 268 0)) 269 (getD digits 269 0) ≡ coded digits
+  code-stands out ys l f =
       let src : length (take 268 digits) ≡ 268 = length-take-le 268 digits (omega arith) in
-      let lent : midOf 0 268 d ≡ take 268 digits = ap (λ (l : List ℕ). take 268 l) e in
-      let whole : ys ≡ sttd barDigit (take 268 digits) = f ∙ encoded-whole (take 268 digits) (midOf 0 268 d) (rw src refl) (ap length lent) in
-      rw (whole, e) refl
+      let lent : length (midOf 0 268 out) ≡ 268 = length-take-le 268 out (omega arith) in
+      let whole : ys ≡ sttd barDigit (take 268 digits) = f ∙ encoded-whole (take 268 digits) (midOf 0 268 out) (rw src refl) (lent ∙ sym src) in
+      let blocks : ys ≡ take 268 (coded digits) = whole ∙ rw coded-is (sttd-take barDigit 67 digits) in
+      let f0 = front-part {t = coded digits} {d₀ = out} {d = out} 268 (front-none (coded-length ∙ sym l)) (omega arith) (omega arith) blocks in
+      let f1 = front-store 0 f0 (let n = front-length f0 in omega arith) (last-kept 268 (omega arith) (omega arith)) in
+      let f2 = front-store 0 f1 (let n = front-length f1 in omega arith) (last-kept 269 (omega arith) (omega arith)) in
+      front-all f2 (omega arith)
+
+-- ---- what map takes, as the scan tells it
+pub fits-taken : (digits : List ℕ) (length1 length2 : ℕ) {i : ℕ} → length digits ≡ 270 → length1 ≡ 300 → length2 ≡ 300
+    → i ≡ firstBad (atMost 1 (take 270 digits)) (length (take 270 digits)) → 270 ≤ i → mapVerdict digits length1 length2 ≡ done
+unfolding mapVerdict
+fits-taken digits length1 length2 long h1 h2 e l =
+    let same : take 270 digits ≡ digits = take-all 270 digits (omega arith) in
+    let found = rw same at e in
+    or-else-pass (unless-pass 3 0 (eq-eqb _ _ long))
+    (or-else-pass (unless-pass 3 1 (eq-eqb _ _ h1))
+    (or-else-pass (unless-pass 3 2 (eq-eqb _ _ h2)) (each-pass 0 4 _ _ (none-first _ _ (omega (arith, found))))))
+
+pub bits-reach : (digits : List ℕ) {i : ℕ} → length digits ≡ 270 → i ≡ firstBad (atMost 1 (take 270 digits)) (length (take 270 digits))
+    → Every (atMost 1 digits) (length digits) → 270 ≤ i
+bits-reach digits long e bits =
+    let same : take 270 digits ≡ digits = take-all 270 digits (omega arith) in
+    let found = rw same at e in
+    omega (arith, found, first-none (atMost 1 digits) (length digits) bits)

@@ -14,12 +14,12 @@ use Rattle.run.specs.Digits.{dtx}
 use Rattle.run.specs.First.{firstBad, Every, atMost, isAt, agree}
 use Rattle.run.specs.Verdicts.{done}
 use Rattle.run.specs.Written.{over}
-use Rattle.run.proofs.Chain.{leaves-done}
+use Rattle.run.proofs.Chain.{leaves-done, number-0}
 use Rattle.run.proofs.First.{first-in-part, part-passes}
 use Rattle.run.proofs.Front.{Front}
 use Rattle.run.proofs.Lent.{part-width, part-length, part-at, same-part, front-copied}
 use Rattle.pccpch.specs.Rule.{place, frameOf, secondOf, dataIn}
-use Rattle.pccpch.specs.Outcome.{mapVerdict, Map, rightKind, readVerdict}
+use Rattle.pccpch.specs.Outcome.{mapVerdict, Map, rightKind, readVerdict, Read}
 use Rattle.pccpch.proofs.Checks.{taken}
 use Rattle.pccpch.proofs.Exact.{mapped-accepted}
 use Rattle.pccpch.proofs.Laws.{frame-length, second-length, data-length, data-at}
@@ -101,6 +101,13 @@ given-accepted antenna1 antenna2 {digits} {f₀} {s₀} {first} {second} m h n1 
     let same2 = found-same _ _ 300 _ (ap length is2 ∙ second-length digits) l2 e2 p2 in
     subst₂ (λ (f g : List ℕ). readVerdict f g 270 ≡ done) (sym is1 ∙ same1) (sym is2 ∙ same2)
     (mapped-accepted digits (taken digits 300 300 (rw (n1, n2) at z)))
+
+-- what is given is read at once
+pub given-read : {antenna1 antenna2 digits after : List ℕ} → length digits ≡ 270 → (readVerdict antenna1 antenna2 270 ≡ done) × (after ≡ dataIn antenna1)
+    → Read antenna1 antenna2 digits done after
+given-read {antenna1} {antenna2} {digits} long g =
+    let v : readVerdict antenna1 antenna2 (length digits) ≡ done = rw long (g .0) in
+    record { verdict-is = sym v; digits-is = g .1 ∙ sym (leaves-done _ _ _ (number-0 v)) }
 
 -- the data as it is read, slot after slot
 module _ (frame : List ℕ) (long : length frame ≡ 300) (s : ℕ) (h : s < 15) where

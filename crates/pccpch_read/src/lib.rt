@@ -6,7 +6,7 @@ use run::or_else;
 use run::refusal;
 use run::unless;
 ghost use mathlib.Core.Path.{_≡_};
-ghost use mathlib.Core.Bool.{true};
+ghost use mathlib.Core.Bool.{true, false};
 ghost use lib.ListN.{length};
 ghost use Rattle.run.specs.First.{firstBad, Every, atMost, agree};
 ghost use Rattle.run.specs.Verdicts.{done};
@@ -102,15 +102,13 @@ fn lengths_fit(length1: usize, length2: usize, data_length: usize) -> bool
 }
 
 // Whether the data of antenna 1 gives both frames. It is mapped again and the frames are compared, many digits at a time; no check can refuse what is given.
-fn is_given(antenna1: &[u8], antenna2: &[u8]) -> bool
+fn is_given(antenna1: &[u8], antenna2: &[u8], data: &[u8]) -> bool
     requires { ⌜ (length (now antenna1) ≡ 300) × (length (now antenna2) ≡ 300) ⌝ }
     ensures { λ r. ⌜ (r ≡ true → readVerdict (now (antenna1 .entry)) (now (antenna2 .entry)) 270 ≡ done) ⌝ }
 {
-    let mut data = [0u8; 270];
-    take_data(antenna1, &mut data);
     let mut first = [DTX; 300];
     let mut second = [DTX; 300];
-    let verdict = pccpch::map(&data, &mut first, &mut second);
+    let verdict = pccpch::map(data, &mut first, &mut second);
     if verdict.number != 0 {
         return false;
     }
@@ -120,18 +118,23 @@ fn is_given(antenna1: &[u8], antenna2: &[u8]) -> bool
     300 <= scan::first_diff(&second, antenna2)
 }
 
-// What is given is accepted at once. Else the checks in their order find the refusal.
+// The data of antenna 1, where it gives both frames.
+fn take_given(antenna1: &[u8], antenna2: &[u8], data: &mut [u8]) -> bool
+    requires { ⌜ (length (now antenna1) ≡ 300) × (length (now antenna2) ≡ 300) × (length (now «data») ≡ 270) ⌝ }
+    ensures { λ r. ⌜ (r ≡ true → (readVerdict (now (antenna1 .entry)) (now (antenna2 .entry)) 270 ≡ done) × (now («data» .exit) ≡ dataIn (now (antenna1 .entry)))) × (r ≡ false → now («data» .exit) ≡ now («data» .entry)) ⌝ }
+{
+    let mut found = [0u8; 270];
+    take_data(antenna1, &mut found);
+    if is_given(antenna1, antenna2, &found) {
+        write::copy(data, &found);
+        return true;
+    }
+    false
+}
+
 fn read_verdict(antenna1: &[u8], antenna2: &[u8], data_length: usize) -> Verdict
     ensures { λ r. ⌜ r ≡ readVerdict (now (antenna1 .entry)) (now (antenna2 .entry)) «data_length» ⌝ }
 {
-    if lengths_fit(antenna1.len(), antenna2.len(), data_length) {
-        if is_given(antenna1, antenna2) {
-            return Verdict {
-                number: 0,
-                place: 0,
-            };
-        }
-    }
     let head = read_head(antenna1, antenna2, data_length);
     if head.number != 0 {
         return head;
@@ -139,8 +142,8 @@ fn read_verdict(antenna1: &[u8], antenna2: &[u8], data_length: usize) -> Verdict
     read_body(antenna1, antenna2)
 }
 
-// The data of both antennas' frames, or the refusal and the data as it was.
-pub fn read(antenna1: &[u8], antenna2: &[u8], data: &mut [u8]) -> Verdict
+// The checks in their order, and then the data.
+fn read_checked(antenna1: &[u8], antenna2: &[u8], data: &mut [u8]) -> Verdict
     ensures { λ r. ⌜ Read (now (antenna1 .entry)) (now (antenna2 .entry)) (now («data» .entry)) r (now («data» .exit)) ⌝ }
 {
     let verdict = read_verdict(antenna1, antenna2, data.len());
@@ -149,4 +152,19 @@ pub fn read(antenna1: &[u8], antenna2: &[u8], data: &mut [u8]) -> Verdict
     }
     take_data(antenna1, data);
     verdict
+}
+
+// The data of both antennas' frames, or the refusal and the data as it was. What is given is accepted at once. Else the checks in their order find the refusal.
+pub fn read(antenna1: &[u8], antenna2: &[u8], data: &mut [u8]) -> Verdict
+    ensures { λ r. ⌜ Read (now (antenna1 .entry)) (now (antenna2 .entry)) (now («data» .entry)) r (now («data» .exit)) ⌝ }
+{
+    if lengths_fit(antenna1.len(), antenna2.len(), data.len()) {
+        if take_given(antenna1, antenna2, data) {
+            return Verdict {
+                number: 0,
+                place: 0,
+            };
+        }
+    }
+    read_checked(antenna1, antenna2, data)
 }

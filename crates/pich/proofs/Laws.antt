@@ -1,6 +1,6 @@
 -- Laws of the four numbers of indicators, and of a frame's groups of digits.
 -- Assumes nothing.
-use mathlib.Core.Path.{_≡_, ap, _∙_}
+use mathlib.Core.Path.{_≡_, refl, ap, _∙_}
 use mathlib.Core.Bool.{true, false}
 use mathlib.Core.List.{List}
 use mathlib.Core.Logic.{_⊎_, inl, inr, ⊎-elim}
@@ -29,6 +29,15 @@ at-each P a b c d np e =
     (λ g. either (eqb np 18) (eqb np 36) g (λ h. rw (eqb-true np 18 h) a) (λ h. rw (eqb-true np 36 h) b))
     (λ h. rw (eqb-true np 72 h) c))
     (λ h. rw (eqb-true np 144 h) d)
+
+-- an Np that is none of the first three
+pub last-np : (np : ℕ) → isNp np ≡ true → (np ≡ 18 → ⊥) → (np ≡ 36 → ⊥) → (np ≡ 72 → ⊥) → np ≡ 144
+last-np =
+    at-each (λ (n : ℕ). (n ≡ 18 → ⊥) → (n ≡ 36 → ⊥) → (n ≡ 72 → ⊥) → n ≡ 144)
+    (λ a b c. absurd (a refl))
+    (λ a b c. absurd (b refl))
+    (λ a b c. absurd (c refl))
+    (λ a b c. refl)
 
 -- the groups lie within the first 288 digits, and fill them
 pub record Groups (np : ℕ) : Type 0 where

@@ -1,6 +1,6 @@
 -- A frame written from the front on: one indicator's stretch after the other, and then the tail.
 -- Assumes nothing.
-use mathlib.Core.Path.{_≡_, refl, ap, _∙_, subst}
+use mathlib.Core.Path.{_≡_, ap, _∙_, subst}
 use mathlib.Core.Bool.{true}
 use mathlib.Core.List.{List}
 use Prim.Native.Nat.{ℕ, _+_, _-_, _*_, _<_}
@@ -11,16 +11,7 @@ use Rattle.run.specs.Digits.{dtx}
 use Rattle.run.proofs.Front.{Front, front-fill, front-all}
 use Rattle.run.proofs.Table.{equal-part}
 use Rattle.pich.specs.Rule.{isNp, width, frameOf}
-use Rattle.pich.proofs.Laws.{at-each, groups, frame-length, tail-at, filled-at}
-
--- an Np that is none of the first three
-pub last-np : (np : ℕ) → isNp np ≡ true → (np ≡ 18 → ⊥) → (np ≡ 36 → ⊥) → (np ≡ 72 → ⊥) → np ≡ 144
-last-np =
-    at-each (λ (n : ℕ). (n ≡ 18 → ⊥) → (n ≡ 36 → ⊥) → (n ≡ 72 → ⊥) → n ≡ 144)
-    (λ a b c. absurd (a refl))
-    (λ a b c. absurd (b refl))
-    (λ a b c. absurd (c refl))
-    (λ a b c. refl)
+use Rattle.pich.proofs.Laws.{groups, frame-length, tail-at, filled-at}
 
 module _ (np : ℕ) (indicators : List ℕ) where
   -- the stretch of one indicator, and the tail, as the writers fill them

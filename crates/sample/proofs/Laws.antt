@@ -14,9 +14,11 @@ use lib.Ieee.Exact.{HasValue}
 use lib.Ieee.Back.{round-whole}
 use lib.Ieee.Positive.{positive, between, cross→le, mul-mono}
 use lib.Ieee.Scale.{round-same}
-use Rattle.run.proofs.Chain.{or-else-done, unless-done}
+use Rattle.run.specs.Verdicts.{done, unless}
+use Rattle.run.proofs.Chain.{or-else-done, unless-done, or-else-pass, unless-pass}
 use Rattle.run.specs.Ranges as ranges
 use Rattle.sample.specs.declared.Setting.{Setting}
+use Rattle.sample.specs.declared.Setting.the-variants.{Off, Shared, Each}
 use Rattle.sample.specs.Rule.{isValue, lowest, highest, isLevel, plusZero, times}
 use Rattle.sample.specs.Outcome.{levelsVerdict, takeVerdict}
 use Rattle.sample.specs.Exact.{Whole}
@@ -176,3 +178,25 @@ taken i q setting antenna h =
       levels-ok = c .first;
       antenna-ok = ltb-true _ _ (unless-done _ 11 4 (lit< tt) (c .rest));
     }
+
+-- a check that refuses nothing answers what a call that is done answers
+clear : (ok : Bool) (number place : ℕ) → 0 < number → unless ok number place .number ≡ 0 → unless ok number place ≡ done
+clear ok number place some h = unless-pass number place (unless-done ok number place some h)
+
+levels-clear : (setting : Setting) → levelsVerdict setting .number ≡ 0 → levelsVerdict setting ≡ done
+unfolding levelsVerdict
+levels-clear Off h = refl
+levels-clear (Shared level) h = clear _ 11 2 (lit< tt) h
+levels-clear (Each first second) h =
+    let c = or-else-done _ _ h in
+    or-else-pass (clear _ 11 2 (lit< tt) (c .first)) (clear _ 11 3 (lit< tt) (c .rest))
+
+pub taken-done : (i q : ℤ) (setting : Setting) (antenna : ℕ) → takeVerdict i q setting antenna .number ≡ 0 → done ≡ takeVerdict i q setting antenna
+unfolding takeVerdict
+taken-done i q setting antenna h =
+    let a = or-else-done _ _ h in
+    let b = or-else-done _ _ (a .rest) in
+    let c = or-else-done _ _ (b .rest) in
+    sym (or-else-pass (clear _ 11 0 (lit< tt) (a .first))
+    (or-else-pass (clear _ 11 1 (lit< tt) (b .first))
+    (or-else-pass (levels-clear setting (c .first)) (clear _ 11 4 (lit< tt) (c .rest)))))

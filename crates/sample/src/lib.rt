@@ -96,7 +96,8 @@ fn part(setting: Setting, antenna: usize, v: i64) -> f32
     }
 }
 
-// The sample that an antenna sends (number 0 is antenna 1, number 1 is antenna 2) of two whole values, or the refusal and +0, +0.
+// The sample that an antenna sends (number 0 is antenna 1, number 1 is antenna 2) of two whole values, or the refusal and +0, +0. Where nothing is refused the answer
+// is written out, so that it need not wait for the place that would have been told.
 pub fn take(i: i64, q: i64, setting: Setting, antenna: usize) -> Sampled
     ensures { λ r. ⌜ Take i q setting antenna r ⌝ }
 {
@@ -111,7 +112,10 @@ pub fn take(i: i64, q: i64, setting: Setting, antenna: usize) -> Sampled
         };
     }
     Sampled {
-        verdict,
+        verdict: Verdict {
+            number: 0,
+            place: 0,
+        },
         sample: Sample {
             inphase: part(setting, antenna, i),
             quadrature: part(setting, antenna, q),

@@ -6,10 +6,16 @@ ghost use Rattle.slot.specs.Outcome.{partVerdict};
 
 mod fields;
 
-// The checks of a slot's digits, which count their places from `base`.
+// The checks of a slot's digits, which count their places from `base`. Where all is well there is no place to look for.
 pub fn part_verdict(format: usize, slot: usize, xs: &[u8], base: u32) -> Verdict
     ensures { λ r. ⌜ r ≡ partVerdict format slot (now (xs .entry)) base ⌝ }
 {
+    if slot_fits::fits(format, slot, xs) {
+        return Verdict {
+            number: 0,
+            place: 0,
+        };
+    }
     let f = dpch::format_of(format);
     if xs.len() != f.slot {
         return Verdict {

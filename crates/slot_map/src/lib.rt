@@ -12,10 +12,13 @@ ghost use Rattle.run.specs.First.{firstBad};
 ghost use Rattle.slot.specs.Rule.{tfciStands};
 ghost use Rattle.slot.specs.Outcome.{fieldsVerdict, mapVerdict, Map};
 
-// The first TFCI digit whose kind, DTX or not, is not the first one's.
+// The first TFCI digit whose kind, DTX or not, is not the first one's. It is looked for where there is one.
 pub fn first_mixed(s: &[u8]) -> usize
     ensures { λ r. ⌜ r ≡ firstBad (tfciStands (now (s .entry))) (length (now (s .entry))) ⌝ }
 {
+    if slot_fits::is_tfci(s) {
+        return s.len();
+    }
     if s.len() == 0 {
         return 0;
     }

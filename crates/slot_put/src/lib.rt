@@ -1,27 +1,14 @@
 // One slot of the downlink DPCH, written (rule, promises and theorems are those of the crate `slot`): docs/RULES.md, 'DPCH slot'; TS 25.211, 5.3.2.
 use dpch::Format;
 use run::Verdict;
+use slot_pilot::write_pilot;
 use write::copy;
 use write::fill;
 ghost use mathlib.Core.Path.{_≡_};
 ghost use lib.ListN.{length};
-ghost use Rattle.run.specs.Written.{over};
-ghost use Rattle.dpch.specs.Pilots.{pilotSource};
 ghost use Rattle.slot.specs.Rule.{slotOf};
 ghost use Rattle.slot.specs.Ready.{Ready};
 ghost use Rattle.slot.specs.Outcome.{Put};
-
-// The pilot of a slot, as long as the field.
-fn write_pilot(dst: &mut [u8], slot: usize)
-    ensures { λ _. ⌜ now (dst .exit) ≡ over (pilotSource (length (now (dst .entry))) slot) (now (dst .entry)) ⌝ }
-{
-    let row = dpch::pilot_row(slot);
-    if dst.len() == 2 {
-        copy(dst, &row[2..4]);
-    } else {
-        copy(dst, &row);
-    }
-}
 
 // The five fields, each into its own stretch. A copy goes as far as the field.
 fn write(f: Format, slot: usize, tpc: u8, data: &[u8], tfci: &[u8], out: &mut [u8])

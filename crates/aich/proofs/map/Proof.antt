@@ -2,7 +2,7 @@
 -- Assumes nothing.
 use mathlib.Core.Path.{sym, _∙_}
 use Rattle.run.proofs.Chain.{leaves-done, leaves-refused}
-use Rattle.aich.proofs.Checks.{taken}
+use Rattle.aich.proofs.Checks.{taken, taken-done}
 use borrow.Author.Needs.{needs}
 use Rattle.aich.proofs.map.Statement.{statement}
 use Rattle.aich.proofs.map.Tie as tie
@@ -27,7 +27,8 @@ returns-2 : tie.Need-returns-2
 returns-2 c =
     let turn = c .before .before .before in
     let e = turn .before .before .map-verdict .ensures in
-    record { verdict-is = e; values-is = c .before .write-values .ensures ∙ sym (leaves-done _ _ _ (rw e at (turn .if1 .left))) }
+    let n = rw e at (turn .if1 .left) in
+    record { verdict-is = taken-done _ _ n; values-is = c .before .write-values .ensures ∙ sym (leaves-done _ _ _ n) }
 
 pub map-spec : {M : Type 1} → statement M
 map-spec =

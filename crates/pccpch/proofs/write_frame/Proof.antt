@@ -1,15 +1,16 @@
--- `pccpch::write_frame` meets its contract: each turn copies one slot's digits into the local frame, which is copied whole at the end.
+-- `pccpch::write_frame` meets its contract: each turn writes one slot of the local frame, which is copied whole at the end.
 -- Assumes nothing.
 use mathlib.Core.Path.{_≡_, sym, ap, _∙_}
 use Prim.Native.Nat.{_-_, _*_, _≤_}
 use native.Mathlib.Omega.{arith}
 use borrow.Author.Needs.{needs}
 use denote.Ref.{now}
-use lib.ListN.{length}
+use lib.ListN.{length, length-set}
+use lib.Seq.{length-take-le}
 use Rattle.run.proofs.Front.{Front}
 use Rattle.run.proofs.Over.{over-whole}
 use Rattle.pccpch.specs.Rule.{frameOf}
-use Rattle.pccpch.proofs.Laws.{frame-length, blank, frame-starts, slot-written, frame-ends, written-length}
+use Rattle.pccpch.proofs.Laws.{frame-length, blank, frame-starts, slot-written, frame-ends, written-length, lent-whole}
 use Rattle.pccpch.proofs.write_frame.Statement.{statement}
 use Rattle.pccpch.proofs.write_frame.Tie as tie
 
@@ -25,11 +26,20 @@ loop-holds c = (omega arith, frame-starts (now (c .before .before .args .digits)
 mul-from : tie.Need-mul-from Inv-loop μ-loop
 mul-from c = omega arith
 
-mul-to : tie.Need-mul-to Inv-loop μ-loop
-mul-to c = omega arith
+mul-start : tie.Need-mul-start Inv-loop μ-loop
+mul-start c = omega arith
 
 add-to : tie.Need-add-to Inv-loop μ-loop
 add-to c = omega arith
+
+array-write-frame : tie.Need-array-write-frame Inv-loop μ-loop
+array-write-frame c = omega arith
+
+add-frame : tie.Need-add-frame Inv-loop μ-loop
+add-frame c = omega arith
+
+array-write-frame-2 : tie.Need-array-write-frame-2 Inv-loop μ-loop
+array-write-frame-2 c = omega arith
 
 add-copy : tie.Need-add-copy Inv-loop μ-loop
 add-copy c = omega arith
@@ -41,7 +51,7 @@ part-frame-start : tie.Need-part-frame-start Inv-loop μ-loop
 part-frame-start c = omega arith
 
 part-frame-end : tie.Need-part-frame-end Inv-loop μ-loop
-part-frame-end c = omega (arith, written-length _ (c .before .loop .inv .1))
+part-frame-end c = simp length-set (omega (arith, written-length _ (c .before .loop .inv .1)))
 
 add-copy-2 : tie.Need-add-copy-2 Inv-loop μ-loop
 add-copy-2 c = omega arith
@@ -70,6 +80,15 @@ loop-again c =
     let start = turn .before .before .before .before in
     (omega arith, slot-written _ (start .pre .0) _ (turn .loop-test .taken) (turn .before .loop .inv .1) (c .before .copy .ensures))
 
+sub-copy-3 : tie.Need-sub-copy-3 Inv-loop μ-loop
+sub-copy-3 c = omega arith
+
+part-copy-start-2 : tie.Need-part-copy-start-2 Inv-loop μ-loop
+part-copy-start-2 c = omega arith
+
+part-copy-end-2 : tie.Need-part-copy-end-2 Inv-loop μ-loop
+part-copy-end-2 c = omega arith
+
 slice-aggregate-copy : tie.Need-slice-aggregate-copy Inv-loop μ-loop
 slice-aggregate-copy c = sym (written-length _ (c .before .before .before .loop .inv .1))
 
@@ -85,7 +104,8 @@ returns c =
     let start = head .before .before .before in
     let all : 20 * head .loop .slot ≡ 300 = omega arith in
     let whole = frame-ends _ (rw all at (head .loop .inv .1)) in
-    c .before .before .copy2 .ensures ∙ over-whole _ _ (ap length whole ∙ frame-length _ ∙ sym (start .pre .1)) ∙ whole
+    let lent = length-take-le 300 (now (start .args .antenna)) (omega arith) in
+    lent-whole (now (start .args .antenna)) _ (start .pre .1) ∙ c .before .before .copy2 .ensures ∙ over-whole _ _ (ap length whole ∙ frame-length _ ∙ sym lent) ∙ whole
 
 pub write-frame-spec : {M : Type 1} → statement M
 write-frame-spec =
@@ -95,8 +115,11 @@ write-frame-spec =
     μ-loop
     loop-holds
     mul-from
-    mul-to
+    mul-start
     add-to
+    array-write-frame
+    add-frame
+    array-write-frame-2
     add-copy
     sub-copy
     part-frame-start
@@ -109,6 +132,9 @@ write-frame-spec =
     add-slot
     loop-less
     loop-again
+    sub-copy-3
+    part-copy-start-2
+    part-copy-end-2
     slice-aggregate-copy
     copy-requires-2
     same-length

@@ -3,26 +3,17 @@
 use mathlib.Core.Path.{_≡_, refl}
 use Prim.Native.Nat.{ℕ}
 use native.Mathlib.Omega.{arith}
-use borrow.Author.Needs.{needs}
 use borrow.Author.Tests.{leb-true}
 use Rattle.pccpch_read.proofs.Laws.{given-accepted}
+use borrow.Author.Needs.{needs}
 use Rattle.pccpch_read.proofs.is_given.Statement.{statement}
 use Rattle.pccpch_read.proofs.is_given.Tie as tie
-
-slice-aggregate-take-data : tie.Need-slice-aggregate-take-data
-slice-aggregate-take-data c = search needs
-
-take-data-requires : tie.Need-take-data-requires
-take-data-requires c κs = search needs
 
 slice-aggregate-map : tie.Need-slice-aggregate-map
 slice-aggregate-map c = search needs
 
 slice-aggregate-map-2 : tie.Need-slice-aggregate-map-2
 slice-aggregate-map-2 c = search needs
-
-slice-aggregate-map-3 : tie.Need-slice-aggregate-map-3
-slice-aggregate-map-3 c = search needs
 
 map-requires : tie.Need-map-requires
 map-requires c κs = search needs
@@ -49,7 +40,7 @@ returns-3 : tie.Need-returns-3
 returns-3 c =
     λ e.
     let mapped = c .before .before .before .before .before .before .before .before .before in
-    let start = mapped .before .before .before .before .before .before .before .before .before in
+    let start = mapped .before .before .before .before .before .before in
     given-accepted _ _ (mapped .map .ensures) (c .before .before .before .before .before .if1 .left) refl refl (start .pre .0) (start .pre .1)
     (c .before .before .before .first-diff .ensures) (c .before .before .if2 .left) (c .first-diff2 .ensures) (leb-true _ _ e)
 
@@ -57,11 +48,8 @@ pub is-given-spec : {M : Type 1} → statement M
 is-given-spec =
     tie.close
     (tie.spec
-    slice-aggregate-take-data
-    take-data-requires
     slice-aggregate-map
     slice-aggregate-map-2
-    slice-aggregate-map-3
     map-requires
     returns
     slice-aggregate-first-diff

@@ -1,4 +1,4 @@
--- `pich_read::read_verdict` meets its contract: what is given is accepted, and all else goes through the checks in their order.
+-- `pich_read::read_verdict` meets its contract: the checks in their order.
 -- Assumes nothing.
 use mathlib.Core.Path.{sym, _∙_}
 use Rattle.run.proofs.Chain.{or-else-refused, or-else-next, each-here}
@@ -8,54 +8,32 @@ use borrow.Author.Needs.{needs}
 use Rattle.pich_read.proofs.read_verdict.Statement.{statement}
 use Rattle.pich_read.proofs.read_verdict.Tie as tie
 
-lengths-fit-requires : tie.Need-lengths-fit-requires
-lengths-fit-requires c κs = search needs
-
-is-given-requires : tie.Need-is-given-requires
-is-given-requires c κs =
-    let fit = c .before .lengths-fit .ensures (c .if1 .taken) in
-    (fit .0, fit .1)
-
-returns : tie.Need-returns
-returns c =
-    let fit = c .before .before .before .lengths-fit .ensures (c .before .before .if1 .taken) in
-    sym (rw (fit .2) (c .before .is-given .ensures (c .if2 .taken)))
-
 read-head-requires : tie.Need-read-head-requires
 read-head-requires c κs = search needs
 
-returns-2 : tie.Need-returns-2
+returns : tie.Need-returns
 unfolding readVerdict
-returns-2 c =
+returns c =
     let e = c .before .before .read-head .ensures in
-    e ∙ sym (or-else-refused _ _ (rw e at (c .if3 .taken)))
+    e ∙ sym (or-else-refused _ _ (rw e at (c .if1 .taken)))
 
 first-misfit-requires : tie.Need-first-misfit-requires
 first-misfit-requires c κs =
-    let h = headed _ _ _ (rw (c .before .before .read-head .ensures) at (c .if3 .left)) in
+    let h = headed _ _ _ (rw (c .before .before .read-head .ensures) at (c .if1 .left)) in
     (h .np-ok, h .frame-ok)
 
 unless-requires : tie.Need-unless-requires
 unless-requires c κs = search needs
 
-returns-3 : tie.Need-returns-3
+returns-2 : tie.Need-returns-2
 unfolding readVerdict
-returns-3 c =
+returns-2 c =
     let turn = c .before .before in
     let e = turn .before .before .read-head .ensures in
     c .unless .ensures
     ∙ rw (c .before .first-misfit .ensures) (sym (each-here _ _ _))
-    ∙ sym (or-else-next _ _ (rw e at (turn .if3 .left)))
+    ∙ sym (or-else-next _ _ (rw e at (turn .if1 .left)))
 
 pub read-verdict-spec : {M : Type 1} → statement M
 read-verdict-spec =
-    tie.close
-    (tie.spec
-    lengths-fit-requires
-    is-given-requires
-    returns
-    read-head-requires
-    returns-2
-    first-misfit-requires
-    unless-requires
-    returns-3)
+    tie.close (tie.spec read-head-requires returns first-misfit-requires unless-requires returns-2)

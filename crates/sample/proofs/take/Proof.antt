@@ -7,7 +7,7 @@ use mir.ValLaws.{toZ-ofZ}
 use Rattle.run.proofs.Chain.{leaves-done, leaves-refused}
 use Rattle.sample.specs.Rule.{isValue}
 use Rattle.sample.specs.Outcome.{takeVerdict}
-use Rattle.sample.proofs.Laws.{Taken, taken}
+use Rattle.sample.proofs.Laws.{Taken, taken, taken-done}
 use borrow.Author.Needs.{needs}
 use Rattle.sample.proofs.take.Statement.{statement}
 use Rattle.sample.proofs.take.Tie as tie
@@ -50,7 +50,7 @@ returns-2 c =
     let e = told (c .before .before .before .before) in
     let n = rw e at (c .before .before .if1 .left) in
     record {
-      verdict-is = e;
+      verdict-is = taken-done _ _ _ _ n;
       inphase-is = rw (toZ-ofZ w64 (s .args .i) (s .fits .i)) at (c .before .part .ensures) ∙ sym (leaves-done _ _ _ n);
       quadrature-is = rw (toZ-ofZ w64 (s .args .q) (s .fits .q)) at (c .part2 .ensures) ∙ sym (leaves-done _ _ _ n);
     }

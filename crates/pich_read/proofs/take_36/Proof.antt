@@ -1,0 +1,46 @@
+-- `pich_read::take_36` meets its contract: what was found is kept where it gives the frame.
+-- Assumes nothing.
+use mathlib.Core.Path.{_≡_, refl}
+use Prim.Native.Nat.{ℕ}
+use native.Mathlib.Omega.{arith}
+use Rattle.pich.specs.Rule.{isNp}
+use borrow.Author.Needs.{needs}
+use Rattle.pich_read.proofs.take_36.Statement.{statement}
+use Rattle.pich_read.proofs.take_36.Tie as tie
+
+slice-aggregate-find-36 : tie.Need-slice-aggregate-find-36
+slice-aggregate-find-36 c = search needs
+
+find-36-requires : tie.Need-find-36-requires
+find-36-requires c κs = search needs
+
+slice-aggregate-keep : tie.Need-slice-aggregate-keep
+slice-aggregate-keep c = search needs
+
+keep-requires : tie.Need-keep-requires
+unfolding isNp
+keep-requires c κs =
+    let asked = c .before .before in
+    let start = asked .before .before .before .before .before .before in
+    (refl, start .pre .0, omega arith, start .pre .1, asked .before .before .find-36 .ensures (asked .if1 .taken))
+
+same-length : tie.Need-same-length
+same-length c = search needs
+
+returns : tie.Need-returns
+returns c = search needs
+
+returns-2 : tie.Need-returns-2
+returns-2 c = (λ e. absurd (let z : _≡_ {A = ℕ} 0 1 = cc in omega arith), λ e. refl)
+
+pub take-36-spec : {M : Type 1} → statement M
+take-36-spec =
+    tie.close
+    (tie.spec
+    slice-aggregate-find-36
+    find-36-requires
+    slice-aggregate-keep
+    keep-requires
+    same-length
+    returns
+    returns-2)

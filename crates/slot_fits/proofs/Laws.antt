@@ -1,0 +1,146 @@
+-- What a look at a field of constant width says of the field's check, and what the looks together say of the verdict.
+-- Assumes nothing.
+use mathlib.Core.Path.{_≡_, refl, sym, ap, _∙_}
+use mathlib.Core.Bool.{Bool, true, false, cond, not, _&&_, Bool·beq}
+use mathlib.Core.List.{List}
+use Prim.Native.Nat.{ℕ, _+_, _-_, _<_}
+use native.Mathlib.Nat.{not-suc-le-zero}
+use native.Mathlib.Omega.{arith}
+use borrow.Author.Tests.{eqb-true, eq-eqb, ne-eqb, le-leb, lt-leb}
+use lib.Dec.{eqb, leb, lit<}
+use lib.ListN.{length, getD, take, drop}
+use Rattle.run.specs.declared.Verdict.{Verdict}
+use Rattle.run.specs.First.{firstBad, all, isAt, likeFirst, agree}
+use Rattle.run.specs.Verdicts.{done, orElse, unless, each}
+use Rattle.run.specs.Fields.{joined, field, start}
+use Rattle.run.proofs.First.{first-is, first-same}
+use Rattle.run.proofs.Chain.{or-else-done, unless-done, or-else-pass, unless-pass}
+use Rattle.run.proofs.Fields.{field-lent}
+use Rattle.dpch.specs.declared.Format.{Format}
+use Rattle.dpch.specs.Formats.{formatOf, widths}
+use Rattle.dpch.specs.Pilots.{pilotRow, symbolsOf, symbolsFor, pilotOf}
+use Rattle.dpch.proofs.Exact.{at-each}
+use Rattle.slot.specs.Rule.{tfciStands}
+use Rattle.slot.specs.Outcome.{partVerdict}
+use Rattle.slot.specs.Ready.{Whole}
+use Rattle.slot.proofs.Laws.{field-long}
+use Rattle.slot.proofs.Accept.{digits-ok, digits-pass}
+use Rattle.slot_fits.specs.Method.{kindAt, PilotWidth}
+
+-- a test of no place holds
+pub none-to-ask : (n : ℕ) (ok : ℕ → Bool) → n ≡ 0 → true ≡ all n ok
+none-to-ask n ok e = sym (le-leb n _ (omega arith))
+
+-- a digit that is a bit v is not DTX
+bit : (d v : ℕ) → (v ≡ 2 → ⊥) → (b : Bool) → eqb d v ≡ b → b ≡ (not (eqb d 2) && b)
+bit d v h true e = rw (ne-eqb d 2 (λ t. h (sym (eqb-true _ _ e) ∙ t)))
+bit d v h false e = either (eqb d 2)
+  where
+    either : (a : Bool) → false ≡ (not a && false)
+    either true = refl
+    either false = refl
+
+-- a TPC field of n digits, compared with its first
+module _ (s : List ℕ) where
+  pub command-told : (n : ℕ) {r : Bool} → length s ≡ n → (getD s 0 0 ≡ 2 → ⊥) → r ≡ all n (isAt (getD s 0 0) s) → r ≡ all (length s) (likeFirst s)
+  command-told n e h told =
+      told ∙ ap (leb n) (first-same _ _ n (λ k _. bit (getD s k 0) _ h _ refl)) ∙ ap (λ (m : ℕ). all m (likeFirst s)) (sym e)
+
+  -- .. and one that begins with DTX
+  pub command-silent : 0 < length s → getD s 0 0 ≡ 2 → false ≡ all (length s) (likeFirst s)
+  command-silent some e =
+      let first = first-is (likeFirst s) (length s) 0 (omega arith) (λ k h. absurd (not-suc-le-zero h)) (λ h. rw (eq-eqb (getD s 0 0) 2 e)) in
+      sym (lt-leb (length s) (firstBad (likeFirst s) (length s)) (omega arith))
+
+-- DTX or not, as asked
+pub kind-silent : (b : Bool) → b ≡ Bool·beq true b
+kind-silent true = refl
+kind-silent false = refl
+
+pub kind-bit : (b : Bool) → not b ≡ Bool·beq false b
+kind-bit true = refl
+kind-bit false = refl
+
+-- a TFCI field of n digits, each of the first one's kind
+pub tfci-told : (s : List ℕ) (n : ℕ) {r : Bool} → length s ≡ n → r ≡ all n (kindAt (eqb (getD s 0 0) 2) s) → r ≡ all (length s) (tfciStands s)
+unfolding tfciStands
+tfci-told s n e told = told ∙ ap (λ (m : ℕ). all m (kindAt (eqb (getD s 0 0) 2) s)) (sym e)
+
+-- a pilot field of n digits, compared with the beginning of a run that begins with the pilot
+pub pilot-told : (s source : List ℕ) (slot n : ℕ) {r : Bool} → length s ≡ n → firstBad (agree s source) n ≡ firstBad (agree s (pilotOf n slot)) n
+    → r ≡ all n (agree s source) → r ≡ all (length s) (agree s (pilotOf (length s) slot))
+pilot-told s source slot n e same told = rw e (told ∙ ap (leb n) same)
+
+-- the pilot of 4, 8 and 16 bits begins the row, and that of 2 bits is its second symbol
+module _ (s : List ℕ) (slot : ℕ) where
+  pub pilot-2 : firstBad (agree s (take 2 (drop 2 (pilotRow slot)))) 2 ≡ firstBad (agree s (pilotOf 2 slot)) 2
+  unfolding pilotRow pilotOf symbolsFor symbolsOf joined
+  pilot-2 = refl
+
+  pub pilot-4 : firstBad (agree s (pilotRow slot)) 4 ≡ firstBad (agree s (pilotOf 4 slot)) 4
+  unfolding pilotRow pilotOf symbolsFor symbolsOf joined firstBad
+  pilot-4 = refl
+
+  pub pilot-8 : firstBad (agree s (pilotRow slot)) 8 ≡ firstBad (agree s (pilotOf 8 slot)) 8
+  unfolding pilotRow pilotOf symbolsFor symbolsOf joined firstBad
+  pilot-8 = refl
+
+  pub pilot-16 : firstBad (agree s (pilotRow slot)) 16 ≡ firstBad (agree s (pilotOf 16 slot)) 16
+  unfolding pilotRow pilotOf symbolsFor symbolsOf joined
+  pilot-16 = refl
+
+-- the pilot of every format has one of the widths
+pub pilot-width : (format : ℕ) → PilotWidth (formatOf format .pilot)
+pilot-width =
+    at-each PilotWidth
+    (record { none = λ a b c d. refl })
+    (record { none = λ a b c d. absurd (a refl) })
+    (record { none = λ a b c d. absurd (b refl) })
+    (record { none = λ a b c d. absurd (c refl) })
+    (record { none = λ a b c d. absurd (d refl) })
+
+-- none of two checks refuses
+both-cases : (v w : Verdict) (b : Bool) → eqb (v .number) 0 ≡ b → (b && eqb (w .number) 0) ≡ eqb (cond b w v .number) 0
+both-cases v w true e = refl
+both-cases v w false e = sym e
+
+pub both-told : (v w : Verdict) {r a b : Bool} → r ≡ (a && b) → a ≡ eqb (v .number) 0 → b ≡ eqb (w .number) 0 → r ≡ eqb (orElse v w .number) 0
+unfolding orElse
+both-told v w e p q = e ∙ rw (p, q) (both-cases v w (eqb (v .number) 0) refl)
+
+-- a check refuses where its test fails at some place
+unless-told : (ok : Bool) (number place : ℕ) → 0 < number → ok ≡ eqb (unless ok number place .number) 0
+unfolding unless
+unless-told true number place h = refl
+unless-told false number place h = sym (ne-eqb number 0 (λ e. let z : ⊥ = omega arith in z))
+
+pub each-told : (base number : ℕ) (ok : ℕ → Bool) (n : ℕ) {r : Bool} → 0 < number → r ≡ all n ok → r ≡ eqb (each base number ok n .number) 0
+unfolding each
+each-told base number ok n h told = told ∙ unless-told (all n ok) number _ h
+
+-- a check of field k as it is lent from a to e
+module _ (f : Format) (xs : List ℕ) (k a e : ℕ) (h : k < 5) (p : a ≡ start k (widths f)) (q : e ≡ a + getD (widths f) k 0) where
+  pub field-told : (base number : ℕ) (ok : List ℕ → ℕ → Bool) {r : Bool} → 0 < number
+      → r ≡ all (length (take (e - a) (drop a xs))) (ok (take (e - a) (drop a xs)))
+      → r ≡ eqb (each base number (ok (field k (widths f) xs)) (length (field k (widths f) xs)) .number) 0
+  field-told base number ok some told = each-told base number _ _ some (rw (field-lent k a e (widths f) xs h p q) at told)
+
+  pub lent-long : Whole f (length xs) → length (take (e - a) (drop a xs)) ≡ getD (widths f) k 0
+  lent-long w = ap length (field-lent k a e (widths f) xs h p q) ∙ field-long f xs w k h
+
+  -- .. with the pilot of the field's width
+  pub pilot-lent : (w : Whole f (length xs)) (slot : ℕ) {r : Bool}
+      → r ≡ all (length (take (e - a) (drop a xs))) (agree (take (e - a) (drop a xs)) (pilotOf (length (take (e - a) (drop a xs))) slot))
+      → r ≡ all (length (take (e - a) (drop a xs))) (agree (take (e - a) (drop a xs)) (pilotOf (getD (widths f) k 0) slot))
+  pilot-lent w slot told =
+      told ∙ ap (λ (n : ℕ). all (length (take (e - a) (drop a xs))) (agree (take (e - a) (drop a xs)) (pilotOf n slot))) (lent-long w)
+
+-- a slot that fits is done, wherever its places count from
+pub fits-anywhere : (format slot : ℕ) (xs : List ℕ) (base : ℕ) {r : Bool} → r ≡ eqb (partVerdict format slot xs 0 .number) 0 → r ≡ true
+    → done ≡ partVerdict format slot xs base
+unfolding partVerdict
+fits-anywhere format slot xs base told good =
+    let c = or-else-done _ _ (eqb-true _ _ (sym told ∙ good)) in
+    sym (or-else-pass
+    (unless-pass 3 0 (unless-done _ 3 0 (lit< tt) (c .first)))
+    (digits-pass (formatOf format) slot xs base (digits-ok (formatOf format) slot xs 0 (c .rest))))

@@ -1,0 +1,17 @@
+-- How the code asks whether the fields of a slot fit: what its private functions ask and promise. Nothing here is part of a public promise.
+-- Assumes nothing.
+use Prim.Native.Nat.{ℕ}
+use mathlib.Core.Path.{_≡_}
+use mathlib.Core.Bool.{Bool, Bool·beq}
+use mathlib.Core.List.{List}
+use lib.ListN.{getD}
+use lib.Dec.{eqb}
+use Rattle.run.specs.Digits.{dtx}
+
+-- the digit at place k is DTX or not, as asked
+abbrev pub kindAt : Bool → List ℕ → ℕ → Bool
+kindAt silent s k = Bool·beq (eqb (getD s k 0) dtx) silent
+
+-- a width that a format's pilot can have: 2, 4, 8 or 16, or 0 where there is no format
+pub record PilotWidth (n : ℕ) : Type 0 where
+  pub none : (n ≡ 2 → ⊥) → (n ≡ 4 → ⊥) → (n ≡ 8 → ⊥) → (n ≡ 16 → ⊥) → n ≡ 0

@@ -1,0 +1,35 @@
+// The pilot field of a slot of the downlink DPCH, written (rule, promises and theorems are those of the crates `dpch` and `slot`): docs/RULES.md, 'DPCH slot'; TS 25.211, 5.3.2.
+ghost use mathlib.Core.Path.{_≡_};
+ghost use Prim.Native.Nat.{_≤_};
+ghost use lib.ListN.{length};
+ghost use Rattle.run.specs.Written.{over};
+ghost use Rattle.dpch.specs.Pilots.{pilotSource};
+
+// The first n digits of `src` into a field of n. Here n is a number where the function is called, so that a field is one store.
+fn copy_n(dst: &mut [u8], src: &[u8], n: usize)
+    requires { ⌜ (length (now dst) ≡ n) × (n ≤ length (now src)) ⌝ }
+    ensures { λ _. ⌜ now (dst .exit) ≡ over (now (src .entry)) (now (dst .entry)) ⌝ }
+{
+    let mut i = 0;
+    while i < n {
+        dst[i] = src[i];
+        i += 1;
+    }
+}
+
+// The pilot of a slot, as long as the field. A row that is lent with no known end has to stand in memory, so the fields of other widths have a row of their own.
+pub fn write_pilot(dst: &mut [u8], slot: usize)
+    ensures { λ _. ⌜ now (dst .exit) ≡ over (pilotSource (length (now (dst .entry))) slot) (now (dst .entry)) ⌝ }
+{
+    let row = dpch::pilot_row(slot);
+    match dst.len() {
+        2 => copy_n(dst, &row[2..4], 2),
+        4 => copy_n(dst, &row, 4),
+        8 => copy_n(dst, &row, 8),
+        16 => copy_n(dst, &row, 16),
+        _ => {
+            let other = dpch::pilot_row(slot);
+            write::copy(dst, &other)
+        }
+    }
+}
