@@ -89,7 +89,7 @@ pub each-is : (base number : ℕ) (ok : ℕ → Bool) (n i : ℕ) (r : Verdict) 
 unfolding each
 each-is base number ok n i r e h = h ∙ rw e
 
--- the lengths of four runs one after the other, and of three where nothing is asked of the fourth
+-- the lengths of four runs one after the other, and of three and of two where nothing is asked of the rest
 pub lengths-four : (a b c d : Bool) → orElse (unless a 3 0) (orElse (unless b 3 1) (orElse (unless c 3 2) (unless d 3 3))) ≡ lengths (a ∷ b ∷ c ∷ d ∷ [])
 unfolding lengths each firstBad orElse unless
 lengths-four false b c d = refl
@@ -104,6 +104,12 @@ lengths-three false b c = refl
 lengths-three true false c = refl
 lengths-three true true false = refl
 lengths-three true true true = refl
+
+pub lengths-two : (a b : Bool) → lengths (a ∷ b ∷ true ∷ true ∷ []) ≡ lengths (a ∷ b ∷ [])
+unfolding lengths each firstBad unless
+lengths-two false b = refl
+lengths-two true false = refl
+lengths-two true true = refl
 
 -- every one of them is right where the check is done, and the other way
 pub lengths-done : (right : List Bool) → lengths right .number ≡ 0 → Every (λ (k : ℕ). getD right k true) (length right)
@@ -236,6 +242,15 @@ leaves-done v new old e = rw (eq-eqb (v .number) 0 e)
 pub leaves-refused : {A : Type 0} (v : Verdict) (new old : A) → (v .number ≡ 0 → ⊥) → leaves v new old ≡ old
 unfolding leaves
 leaves-refused v new old e = rw (ne-eqb (v .number) 0 e)
+
+-- a value answered beside a verdict, 0 where it refuses, is small where it is small when the call is done
+pub leaves-small : (v : Verdict) (value top : ℕ) → (v .number ≡ 0 → value < top) → 0 < top → leaves v value 0 < top
+unfolding leaves
+leaves-small v value top small some = pick (eqb (v .number) 0) refl
+  where
+    pick : (b : Bool) → eqb (v .number) 0 ≡ b → cond b value 0 < top
+    pick true e = small (eqb-true _ _ e)
+    pick false e = some
 
 -- two outcomes that equal one definition are equal: so a promise by equations allows one outcome
 pub one-outcome : {A : Type 0} {x y z : A} → x ≡ z → y ≡ z → x ≡ y
