@@ -4,29 +4,35 @@ use mathlib.Core.Path.{_≡_, refl, sym, ap, _∙_, subst}
 use mathlib.Core.Bool.{Bool, true, false, cond, _&&_}
 use mathlib.Core.List.{List, [], _∷_, _++_, map, append-assoc, append-nil}
 use Prim.Native.Nat.{ℕ, zero, suc, _+_, _-_, _%_, _≤_, _<_}
+use native.Mathlib.Nat.{not-suc-le-zero}
 use native.Mathlib.Omega.{arith}
-use borrow.Author.Tests.{eqb-true, eqb-false, leb-true, lt-leb, ltb-true, ltb-false}
+use borrow.Author.Tests.{eqb-true, eqb-false, leb-true, le-leb, lt-leb, ltb-true, ltb-false}
 use borrow.Rule.Slice.PartMut.{putMid, midOf}
 use lib.Dec.{eqb, leb, ltb, lit<}
 use lib.ListN.{length, getD, take, drop, length-drop, List·getD-eq-default}
 use lib.Seq.{length-take-le, take-all}
-use Rattle.run.specs.First.{firstBad, Every}
+use Rattle.run.specs.First.{firstBad, Every, atMost}
 use Rattle.run.specs.Fields.{total, joined, start}
 use Rattle.run.specs.Written.{over}
 use Rattle.run.proofs.Bools.{and-left, and-right}
 use Rattle.run.proofs.Fields.{field-joined, field-lent, joined-length}
 use Rattle.run.proofs.First.{every-by}
 use Rattle.run.proofs.Front.{Front, front-none, front-part, front-lent, front-all}
-use Rattle.run.proofs.Stretch.{field-copied}
+use Rattle.run.proofs.Each.{Each, each-take, each-drop, each-joined}
+use Rattle.run.proofs.Stretch.{field-copied, joined-at}
 use Rattle.dpch.specs.Formats.{row, formats, formatOf, widths}
 use Rattle.dpch.specs.SecondPilots.{secondPilot, secondSource}
 use Rattle.dpch.proofs.Exact.{format-second-pilots}
 use Rattle.slot.proofs.Laws.{sound-format, sum, start-pilot}
 use Rattle.sttd.specs.Rule.{sttd, barDigit}
 use Rattle.sttd.specs.Outcome.{encodedOver}
-use Rattle.sttd.proofs.Laws.{sttd-length}
+use Rattle.sttd.proofs.Bars.{bar-keeps-digit}
+use Rattle.sttd.proofs.Laws.{sttd-length, sttd-keeps}
 use Rattle.sttd.proofs.Runs.{encoded-whole}
 use Rattle.antenna.specs.Rule.{pilotStart, secondOf, codedFrom, codedTo, coded}
+
+abbrev digit : ℕ → Bool
+digit x = leb x 2
 
 -- ---- the table: one test of its rows
 
@@ -109,7 +115,7 @@ pilot-is format slot = side (eqb (formatOf format .pilot) 2) refl
         record { long = rw (e, n) (q .long); cut-from = rw (e, n) (q .cut-from (eqb-false _ _ e)); enough = rw (e, n) (q .enough (eqb-false _ _ e)) }
 
 module _ (format slot : ℕ) (xs : List ℕ) (long : length xs ≡ formatOf format .slot) where
-  coded-long : length (coded format xs) ≡ codedTo format - codedFrom format
+  pub coded-long : length (coded format xs) ≡ codedTo format - codedFrom format
   coded-long =
       let b = blocks format in
       let w = b .within in
@@ -149,29 +155,69 @@ second-joined zero slot xs long = append-assoc (take 2 xs) _ _ ∙ ap (λ (l : L
 second-joined (suc zero) slot xs long = append-assoc (take 2 xs) _ _ ∙ ap (λ (l : List ℕ). take 2 xs ++ (sttd barDigit (take 4 (drop 2 xs)) ++ l)) (sym (append-nil (secondPilot 4 slot)))
 second-joined (suc (suc n)) slot xs long = second-others (suc (suc n)) slot xs (omega arith) long
 
-module _ (format slot : ℕ) (xs out : List ℕ) (long : length xs ≡ formatOf format .slot) (out-long : length out ≡ formatOf format .slot) where
-  start-1 : start 1 (thirdWidths format) ≡ codedFrom format
+-- where the three parts begin, and how long they are together
+module _ (format : ℕ) where
+  pub start-coded : start 1 (thirdWidths format) ≡ codedFrom format
   unfolding start total
-  start-1 = omega arith
+  start-coded = omega arith
 
-  start-2 : start 2 (thirdWidths format) ≡ codedTo format
+  pub start-behind : start 2 (thirdWidths format) ≡ codedTo format
   unfolding start total
-  start-2 = let o = blocks format .ordered in omega arith
+  start-behind = let o = blocks format .ordered in omega arith
 
-  room : length out ≡ total (thirdWidths format)
+  pub widths-total : total (thirdWidths format) ≡ formatOf format .slot
   unfolding total
-  room =
+  widths-total =
       let o = blocks format .ordered in
       let w = blocks format .within in
       omega arith
 
+module _ (format slot : ℕ) (xs : List ℕ) (long : length xs ≡ formatOf format .slot) where
   pub second-length : length (secondOf format slot xs) ≡ formatOf format .slot
   second-length =
       ap length (second-joined format slot xs long)
       ∙ joined-length (thirds format slot xs)
       ∙ ap total (thirds-widths format slot xs long)
-      ∙ sym room
-      ∙ out-long
+      ∙ widths-total format
+
+  -- digit i of the k-th of the three
+  pub second-at : (k i : ℕ) → k < 3 → i < getD (thirdWidths format) k 0
+      → getD (secondOf format slot xs) (start k (thirdWidths format) + i) 0 ≡ getD (getD (thirds format slot xs) k []) i 0
+  second-at k i h l =
+      ap (λ (s : List ℕ). getD s (start k (thirdWidths format) + i) 0) (second-joined format slot xs long)
+      ∙ joined-at (thirdWidths format) (thirds format slot xs) (thirds-widths format slot xs long) k i 0 h l
+
+  -- the encoded part of antenna 2's slot
+  pub second-coded : coded format (secondOf format slot xs) ≡ sttd barDigit (coded format xs)
+  second-coded =
+      let o = blocks format .ordered in
+      let w1 : codedTo format ≡ codedFrom format + (codedTo format - codedFrom format) = omega arith in
+      ap (coded format) (second-joined format slot xs long)
+      ∙ field-lent 1 (codedFrom format) (codedTo format) (thirdWidths format) (joined (thirds format slot xs)) (lit< tt) (sym (start-coded format)) w1
+      ∙ field-joined 1 (thirdWidths format) (thirds format slot xs) (thirds-widths format slot xs long)
+
+  -- of digits it has digits
+  pub second-digits : Every (atMost 2 xs) (length xs) → Every (atMost 2 (secondOf format slot xs)) (length (secondOf format slot xs))
+  second-digits all =
+      subst (λ (s : List ℕ). Each digit s) (sym (second-joined format slot xs long))
+      (each-joined digit (thirds format slot xs) (
+        each-take digit (codedFrom format) xs all,
+        (encoded, (pilot (eqb (formatOf format .pilot) 2), tt)),
+      ))
+    where
+      encoded : Each digit (sttd barDigit (coded format xs))
+      encoded k h =
+          sttd-keeps barDigit (λ (x : ℕ). leb x 2 ≡ true) bar-keeps-digit 0 (coded format xs)
+          (each-take digit (codedTo format - codedFrom format) (drop (codedFrom format) xs) (each-drop digit (codedFrom format) xs all))
+          k (rw (sttd-length barDigit (coded format xs)) at h)
+
+      pilot : (b : Bool) → Each digit (cond b [] (secondPilot (formatOf format .pilot) slot))
+      pilot true k h = absurd (not-suc-le-zero h)
+      pilot false k h = le-leb (getD (secondPilot (formatOf format .pilot) slot) k 0) 2 (let l : getD (secondPilot (formatOf format .pilot) slot) k 0 ≤ 1 = leb-true _ _ (format-second-pilots format slot .digits k h) in omega arith)
+
+module _ (format slot : ℕ) (xs out : List ℕ) (long : length xs ≡ formatOf format .slot) (out-long : length out ≡ formatOf format .slot) where
+  room : length out ≡ total (thirdWidths format)
+  room = out-long ∙ sym (widths-total format)
 
   -- the three parts, lent and written one after the other: y1, y2 and y3 are what they came back as
   module _ (a e n : ℕ) (a-is : a ≡ codedFrom format) (e-is : e ≡ codedTo format) (n-is : n ≡ length xs) where
@@ -204,7 +250,7 @@ module _ (format slot : ℕ) (xs out : List ℕ) (long : length xs ≡ formatOf 
         (e2
         ∙ encoded-whole (take (e - a) (drop a xs)) (midOf a (e - a) (after1 y1)) (omega arith) (n2 ∙ sym n1)
         ∙ ap (sttd barDigit) same
-        ∙ sym (field-lent 1 a e (thirdWidths format) (joined (thirds format slot xs)) (lit< tt) (a-is ∙ sym start-1) w1
+        ∙ sym (field-lent 1 a e (thirdWidths format) (joined (thirds format slot xs)) (lit< tt) (a-is ∙ sym (start-coded format)) w1
         ∙ field-joined 1 (thirdWidths format) (thirds format slot xs) (thirds-widths format slot xs long)))
 
     pub all-written : (y1 y2 y3 : List ℕ) → y1 ≡ over xs (midOf 0 (a - 0) out)
@@ -218,7 +264,7 @@ module _ (format slot : ℕ) (xs out : List ℕ) (long : length xs ≡ formatOf 
         let f = coded-written y1 y2 (same-written y1 e1) e2 in
         let lent : length (midOf e (n - e) (after2 y1 y2)) ≡ formatOf format .slot - codedTo format = front-lent e n f (omega arith) ∙ omega arith in
         front-all
-        (field-copied (thirdWidths format) (thirds format slot xs) (thirds-widths format slot xs long) out room 2 e n (lit< tt) (e-is ∙ sym start-2) (omega arith)
+        (field-copied (thirdWidths format) (thirds format slot xs) (thirds-widths format slot xs long) out room 2 e n (lit< tt) (e-is ∙ sym (start-behind format)) (omega arith)
         (secondSource (formatOf format .slot - codedTo format) slot) f (p .enough)
         (e3 ∙ ap (λ (k : ℕ). over (secondSource k slot) (midOf e (n - e) (after2 y1 y2))) lent) (sym (p .cut-from)))
         (omega arith)

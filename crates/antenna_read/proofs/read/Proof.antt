@@ -1,34 +1,44 @@
+-- `antenna_read::read` meets its contract.
+-- Assumes nothing.
+use mathlib.Core.Path.{refl, sym, _∙_}
+use Rattle.run.proofs.Chain.{leaves-done, leaves-refused, number-0}
+use Rattle.slot.proofs.Accept.{read-head-pass}
+use Rattle.antenna.proofs.Checks.{accepted}
 use borrow.Author.Needs.{needs}
 use Rattle.antenna_read.proofs.read.Statement.{statement}
 use Rattle.antenna_read.proofs.read.Tie as tie
-use Rattle.antenna_read.proofs.read.Reads as reads
-use Rattle.antenna_read.proofs.read.Lts as lts
-use Rattle.antenna_read.proofs.read_verdict.Reads as read-verdict-reads
-use Rattle.slot_read.proofs.take.Reads as take-reads
 
--- src/lib.rt:125:9
 read-verdict-requires : tie.Need-read-verdict-requires
 read-verdict-requires c κs = search needs
 
--- src/lib.rt:134:9
 returns : tie.Need-returns
-returns c = ?
+returns c =
+    let e = c .before .before .read-verdict .ensures in
+    let n = rw e at (c .if1 .taken) in
+    record { verdict-is = e; command-is = sym (leaves-refused _ _ _ n); data-is = sym (leaves-refused _ _ _ n); tfci-is = sym (leaves-refused _ _ _ n) }
 
--- src/lib.rt:139:9
 take-requires : tie.Need-take-requires
 take-requires c κs = search needs
 
--- src/lib.rt:115:1
 same-length : tie.Need-same-length
 same-length c = search needs
 
--- src/lib.rt:115:1
 same-length-2 : tie.Need-same-length-2
 same-length-2 c = search needs
 
--- src/lib.rt:115:1
 returns-2 : tie.Need-returns-2
-returns-2 c = ?
+returns-2 c =
+    let e = c .before .before .before .before .before .before .before .before .before .read-verdict .ensures in
+    let z = rw e at (c .before .before .before .before .before .before .before .if1 .left) in
+    let t = c .before .before .before .before .take .ensures in
+    let a = accepted _ _ _ _ _ _ z .head in
+    let h = number-0 (read-head-pass _ _ _ _ _ (a .format-ok) (a .slot-ok) (a .first-ok) (a .data-ok) (a .tfci-ok)) in
+    record {
+      verdict-is = e;
+      command-is = t .command-is ∙ leaves-done _ _ _ h ∙ sym (leaves-done _ _ _ z);
+      data-is = t .data-is ∙ leaves-done _ _ _ h ∙ sym (leaves-done _ _ _ z);
+      tfci-is = t .tfci-is ∙ leaves-done _ _ _ h ∙ sym (leaves-done _ _ _ z);
+    }
 
 pub read-spec : {M : Type 1} → statement M
 read-spec =

@@ -1,35 +1,47 @@
+-- `antenna_read::read_verdict` meets its contract: the checks in their order.
+-- Assumes nothing.
+use mathlib.Core.Path.{sym, _∙_}
+use Rattle.run.proofs.Chain.{or-else-refused, or-else-next}
+use Rattle.antenna.specs.Outcome.{readVerdict}
+use Rattle.antenna.proofs.Checks.{headed, head-pass}
 use borrow.Author.Needs.{needs}
 use Rattle.antenna_read.proofs.read_verdict.Statement.{statement}
 use Rattle.antenna_read.proofs.read_verdict.Tie as tie
-use Rattle.antenna_read.proofs.read_verdict.Reads as reads
-use Rattle.antenna_read.proofs.read_verdict.Lts as lts
-use Rattle.antenna_read.proofs.agrees.Reads as agrees-reads
-use Rattle.antenna_read.proofs.check.Reads as check-reads
-use Rattle.antenna_read.proofs.read_head.Reads as read-head-reads
 
--- src/lib.rt:97:9
 read-head-requires : tie.Need-read-head-requires
 read-head-requires c κs = search needs
 
--- src/lib.rt:106:9
 returns : tie.Need-returns
-returns c = ?
+unfolding readVerdict
+returns c =
+    let e = c .before .before .read-head .ensures in
+    e ∙ sym (or-else-refused _ _ (rw e at (c .if1 .taken)))
 
--- src/lib.rt:108:8
 agrees-requires : tie.Need-agrees-requires
-agrees-requires c κs = ?
+agrees-requires c κs =
+    let h = headed _ _ _ _ _ _ (rw (c .before .before .read-head .ensures) at (c .if1 .left)) in
+    (h .first-ok, h .second-ok)
 
--- src/lib.rt:109:9
 returns-2 : tie.Need-returns-2
-returns-2 c = ?
+unfolding readVerdict
+returns-2 c =
+    let asked = c .before .before in
+    let e = asked .before .before .read-head .ensures in
+    let z = rw e at (asked .if1 .left) in
+    e ∙ head-pass _ _ _ _ _ _ (headed _ _ _ _ _ _ z) ∙ sym (or-else-next _ _ z ∙ c .before .agrees .ensures (c .if2 .taken))
 
--- src/lib.rt:111:5
 check-requires : tie.Need-check-requires
-check-requires c κs = ?
+check-requires c κs =
+    let asked = c .before .before in
+    let h = headed _ _ _ _ _ _ (rw (asked .before .before .read-head .ensures) at (asked .if1 .left)) in
+    (h .first-ok, h .second-ok)
 
--- src/lib.rt:87:1
 returns-3 : tie.Need-returns-3
-returns-3 c = ?
+unfolding readVerdict
+returns-3 c =
+    let asked = c .before .before .before in
+    let e = asked .before .before .read-head .ensures in
+    c .check .ensures ∙ sym (or-else-next _ _ (rw e at (asked .if1 .left)))
 
 pub read-verdict-spec : {M : Type 1} → statement M
 read-verdict-spec =
