@@ -45,8 +45,8 @@ pub fn write_second(dst: &mut [u8], slot: usize)
             copy_n(dst, &four, 4)
         }
         8 => {
-            let row = dpch::pilot_row(1, slot);
-            copy_n(dst, &row, 8)
+            let eight = dpch::pilot_row(1, slot);
+            copy_n(dst, &eight, 8)
         }
         16 => {
             let row = dpch::pilot_row(1, slot);
