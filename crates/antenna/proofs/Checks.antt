@@ -52,9 +52,9 @@ module _ (format slot tpc : ℕ) (d tfci out : List ℕ) {answer : Verdict} wher
   too-long {after} h p =
       let no : base.mapVerdict format slot tpc d tfci (length out) .number ≡ 0 → ⊥ =
       λ z.
-          let long = mapped format slot tpc d tfci (length out) z .head .ready .slot-ok in
-          let short = sound-format format .short in
-          omega arith
+      let long = mapped format slot tpc d tfci (length out) z .head .ready .slot-ok in
+      let short = sound-format format .short in
+      omega arith
       in
       let e = map-in-range format slot 1 tpc d tfci (length out) (omega arith) in
       record {

@@ -122,14 +122,7 @@ pub fn read(
 ) -> Command
     ensures { λ r. ⌜ Read format slot (now (first .entry)) (now (second .entry)) (now («data» .entry)) (now (tfci .entry)) r (now («data» .exit)) (now (tfci .exit)) ⌝ }
 {
-    let checked = read_verdict(
-        format,
-        slot,
-        first,
-        second,
-        data.len(),
-        tfci.len(),
-    );
+    let checked = read_verdict(format, slot, first, second, data.len(), tfci.len());
     if checked.number != 0 {
         return Command {
             verdict: checked,

@@ -26,10 +26,10 @@ returns c =
     let start = c .before .before .before .before .before in
     let pre = start .pre in
     λ t.
-        body-by _ _ _ _ _ (c .before .before .fits2 .ensures) (c .before .if1 .taken) (pre .0) (pre .1)
-        (none-first _ _
-        (let l : length (now (start .args .first)) ≤ c .first-difference .result = leb-true _ _ t in
-        rw (pre .0, c .first-difference .ensures) at l))
+    body-by _ _ _ _ _ (c .before .before .fits2 .ensures) (c .before .if1 .taken) (pre .0) (pre .1)
+    (none-first _ _
+    (let l : length (now (start .args .first)) ≤ c .first-difference .result = leb-true _ _ t in
+    rw (pre .0, c .first-difference .ensures) at l))
 
 returns-2 : tie.Need-returns-2
 returns-2 c = λ e. absurd (let z : _≡_ {A = ℕ} 0 1 = cc in omega arith)
