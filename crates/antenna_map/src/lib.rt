@@ -53,8 +53,8 @@ fn map_second(
     ensures { λ r. ⌜ Map format slot 1 tpc (now («data» .entry)) (now (tfci .entry)) (now (out .entry)) r (now (out .exit)) ⌝ }
 {
     let n = out.len();
-    if n <= 40 {
-        let mut short = [0u8; 40];
+    if n <= 160 {
+        let mut short = [0u8; 160];
         return through(format, slot, tpc, data, tfci, &mut short[0..n], out);
     }
     if n <= 1280 {

@@ -50,8 +50,8 @@ fn first_difference(format: usize, slot: usize, first: &[u8], second: &[u8]) -> 
     ensures { λ r. ⌜ r ≡ firstBad (agree (secondOf format slot (now (first .entry))) (now (second .entry))) (formatOf format .slot) ⌝ }
 {
     let n = first.len();
-    if n <= 40 {
-        let mut short = [0u8; 40];
+    if n <= 160 {
+        let mut short = [0u8; 160];
         return compare(format, slot, first, second, &mut short[0..n]);
     }
     let mut long = [0u8; 1280];
