@@ -2,18 +2,17 @@
 -- Assumes nothing.
 use mathlib.Core.Path.{_≡_, refl, sym, ap, _∙_, subst}
 use mathlib.Core.Bool.{Bool, true, false, _&&_}
-use mathlib.Core.List.{List, [], _∷_, _++_, map}
-use mathlib.Core.Logic.{_↔_}
-use Prim.Native.Nat.{ℕ, _+_, _-_, _*_, _%_, _≤_, _<_}
+use mathlib.Core.List.{List, [], _∷_, _++_}
+use Prim.Native.Nat.{ℕ, _+_, _-_, _*_, _≤_, _<_}
 use native.Mathlib.Nat.{zero-add}
 use native.Mathlib.Omega.{arith}
-use borrow.Author.Tests.{eqb-true, eqb-false}
+use borrow.Author.Tests.{eqb-true}
 use lib.Dec.{eqb, lit<}
-use lib.ListN.{length, getD, take, drop}
+use lib.ListN.{length, getD, drop}
 use lib.Seq.{getD-take, getD-drop}
-use Rattle.run.specs.First.{firstBad, Every, agree}
+use Rattle.run.specs.First.{firstBad, Every}
 use Rattle.run.specs.Fields.{cut, field, joined, start, total}
-use Rattle.run.specs.Pairs.{Given, Reads, PairGiven, PairRead}
+use Rattle.run.specs.Pairs.{Reads, PairRead}
 use Rattle.run.specs.Table.{tab}
 use Rattle.run.specs.Verdicts.{done, leaves, Narrow}
 use Rattle.run.proofs.Bools.{and-left, and-right}
@@ -25,7 +24,7 @@ use Rattle.dpch.specs.Formats.{formats, formatOf}
 use Rattle.dpch.specs.Pilots.{symbols1, symbols3, symbols5, symbols7, symbolsOf, symbolsFor, pilotOf}
 use Rattle.dpch.specs.SecondPilots.{table14, printed14, secondPilot}
 use Rattle.dpch.proofs.Heads.{slot-head-narrow}
-use Rattle.slot.specs.Rule.{dataSize, slotOf, dataIn, tfciIn, commandIn}
+use Rattle.slot.specs.Rule.{dataSize, slotOf, commandIn}
 use Rattle.slot.specs.Outcome as base
 use Rattle.slot.specs.Exact as base-exact
 use Rattle.slot.proofs.Laws.{sound-format, sum, slot-length, data-small, tfci-small}
@@ -36,9 +35,9 @@ use Rattle.sttd.proofs.Laws.{block}
 use Rattle.sttd.proofs.Antenna2.{both-bars, zero-product}
 use Rattle.antenna.specs.Rule.{pilotStart, secondOf, sentOf, codedFrom, codedTo, coded}
 use Rattle.antenna.specs.Outcome.{mapHead, mapVerdict, readHead, readBody, readVerdict}
-use Rattle.antenna.specs.Exact.{AntennaOne, Fields, Taken, sent, fieldsIn, Pair, ReadExact, Encoded, WholeBlocks, Block, Placed, SecondPlaced, LastBlock, TwoBitPilots, Orthogonal, symbolAt, SecondPinned, MapOnce, ReadOnce, Packs}
-use Rattle.antenna.proofs.Laws.{blocks, behind, thirds, thirdWidths, start-coded, start-behind, coded-long, second-length, second-at, second-coded}
-use Rattle.antenna.proofs.Checks.{map-in-range, first-mapped, mapped-first, Headed, headed, head-pass, body-given, Accepted, accepted}
+use Rattle.antenna.specs.Exact.{AntennaOne, Fields, Taken, sent, fieldsIn, ReadExact, WholeBlocks, Block, SecondPlaced, TwoBitPilots, Orthogonal, symbolAt, SecondPinned, MapOnce, ReadOnce, Packs}
+use Rattle.antenna.proofs.Laws.{blocks, behind, start-coded, start-behind, coded-long, second-length, second-at, second-coded}
+use Rattle.antenna.proofs.Checks.{map-in-range, first-mapped, mapped-first, headed, head-pass, body-given, accepted}
 
 pub antenna-one : AntennaOne
 unfolding sentOf

@@ -20,7 +20,7 @@ use Rattle.run.proofs.First.{every-by}
 use Rattle.run.proofs.Front.{Front, front-none, front-part, front-lent, front-all}
 use Rattle.run.proofs.Each.{Each, each-take, each-drop, each-joined}
 use Rattle.run.proofs.Stretch.{field-copied, joined-at}
-use Rattle.dpch.specs.Formats.{row, formats, formatOf, widths}
+use Rattle.dpch.specs.Formats.{row, formats, formatOf}
 use Rattle.dpch.specs.SecondPilots.{secondPilot, secondSource}
 use Rattle.dpch.proofs.Exact.{format-second-pilots}
 use Rattle.slot.proofs.Laws.{sound-format, sum, start-pilot}

@@ -1,5 +1,6 @@
 // One slot of the downlink DPCH on two antennas: its rule, promises and theorems, and what antenna 2 sends where antenna 1's digits are known:
 // docs/RULES.md, 'DPCH on the second antenna'; TS 25.211, 5.3.2.1.
+use dpch::Format;
 use slot_pilot::write_second;
 use write::copy;
 ghost use mathlib.Core.Path.{_≡_};
@@ -16,10 +17,10 @@ fn coded_from(format: usize) -> usize
 }
 
 // Where they end: a pilot of two bits is encoded with the data before it.
-fn coded_to(format: usize) -> usize
+fn coded_to(format: usize, f: Format) -> usize
+    requires { ⌜ f ≡ formatOf format ⌝ }
     ensures { λ r. ⌜ r ≡ codedTo format ⌝ }
 {
-    let f = dpch::format_of(format);
     if f.pilot == 2 {
         return f.slot;
     }
@@ -27,12 +28,12 @@ fn coded_to(format: usize) -> usize
 }
 
 // What stands before the encoded digits, those digits, and the pilot of table 14, each in its own stretch.
-fn write(format: usize, slot: usize, first: &[u8], out: &mut [u8])
-    requires { ⌜ (length (now first) ≡ formatOf format .slot) × (length (now out) ≡ formatOf format .slot) ⌝ }
+fn write(format: usize, f: Format, slot: usize, first: &[u8], out: &mut [u8])
+    requires { ⌜ (f ≡ formatOf format) × (length (now first) ≡ formatOf format .slot) × (length (now out) ≡ formatOf format .slot) ⌝ }
     ensures { λ _. ⌜ now (out .exit) ≡ secondOf format slot (now (first .entry)) ⌝ }
 {
     let a = coded_from(format);
-    let e = coded_to(format);
+    let e = coded_to(format, f);
     let n = first.len();
     copy(&mut out[0..a], first);
     sttd::encode(&first[a..e], &mut out[a..e]);
@@ -50,5 +51,5 @@ pub fn second_of(format: usize, slot: usize, first: &[u8], out: &mut [u8])
     if out.len() != f.slot {
         return;
     }
-    write(format, slot, first, out);
+    write(format, f, slot, first, out);
 }

@@ -19,7 +19,9 @@ unfolding secondOver
 returns-2 c = rw (← c .before .before .before .before .format-of .ensures, eq-eqb _ _ (c .before .before .if1 .left), ne-eqb _ _ (c .if2 .taken))
 
 write-requires : tie.Need-write-requires
-write-requires c κs = rw (← c .before .before .before .before .before .format-of .ensures) (c .before .before .before .if1 .left, c .before .if2 .left)
+write-requires c κs =
+    let e = c .before .before .before .before .before .format-of .ensures in
+    (e, rw (← e) (c .before .before .before .if1 .left), rw (← e) (c .before .if2 .left))
 
 same-length : tie.Need-same-length
 same-length c = search needs

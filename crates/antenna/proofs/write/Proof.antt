@@ -72,7 +72,7 @@ returns : tie.Need-returns
 returns c =
     let ct = c .before .before .before .before .before .before .before .before .before .before .before .before .before in
     let start = c .before .before .before .before .before .before .before .before .before .before .before .before .before .before .before .before .before in
-    all-written (start .args .format) (start .args .slot) (now (start .args .first)) (now (start .args .out)) (start .pre .0) (start .pre .1) _ _ _
+    all-written (start .args .format) (start .args .slot) (now (start .args .first)) (now (start .args .out)) (start .pre .1) (start .pre .2) _ _ _
     (ct .before .coded-from .ensures) (ct .coded-to .ensures) refl _ _ _ (c .before .before .before .before .before .before .before .before .before .before .before .copy .ensures) (c .before .before .before .before .before .before .encode .ensures) (c .before .before .write-second .ensures)
 
 pub write-spec : {M : Type 1} → statement M

@@ -1,15 +1,12 @@
 -- `antenna_read::agrees` meets its contract: what is given beside what it implies passes every check.
 -- Assumes nothing.
-use mathlib.Core.Path.{_≡_, sym, _∙_}
+use mathlib.Core.Path.{_≡_}
 use Prim.Native.Nat.{ℕ, _≤_}
 use native.Mathlib.Omega.{arith}
 use borrow.Author.Tests.{leb-true}
 use denote.Ref.{now}
 use lib.ListN.{length}
-use Rattle.run.specs.First.{agree}
 use Rattle.run.proofs.First.{none-first}
-use Rattle.dpch.specs.Formats.{formatOf}
-use Rattle.antenna.specs.Rule.{secondOf}
 use Rattle.antenna.proofs.Checks.{body-by}
 use borrow.Author.Needs.{needs}
 use Rattle.antenna_read.proofs.agrees.Statement.{statement}

@@ -1,6 +1,6 @@
 -- `antenna_read::read` meets its contract.
 -- Assumes nothing.
-use mathlib.Core.Path.{refl, sym, _∙_}
+use mathlib.Core.Path.{sym, _∙_}
 use Rattle.run.proofs.Chain.{leaves-done, leaves-refused, number-0}
 use Rattle.slot.proofs.Accept.{read-head-pass}
 use Rattle.antenna.proofs.Checks.{accepted}
