@@ -1,7 +1,7 @@
 -- The law of specs/Pairs.antt.
 -- Assumes nothing.
 use mathlib.Core.Path.{_≡_, sym, ap, _∙_}
-use Rattle.run.specs.Pairs.{Given, PairGiven, PairsExact}
+use Rattle.run.specs.Pairs.{PairGiven, PairsExact}
 
 pub pairs-exact : PairsExact
 pairs-exact F S Taken one two accepts take implied reads follows s t =
