@@ -25,10 +25,6 @@ use Rattle.dpcch.specs.Ready.{pilotSource, Whole}
 use Rattle.dpcch.proofs.Laws.{start-pilot, start-tpc, field-long, command-at, sum}
 use Rattle.dpcch.proofs.Accept.{digits-ok, digits-pass}
 
--- a run of n digits of which the first n were looked at
-pub front-is-all : (s : List ℕ) (n : ℕ) (ok : ℕ → Bool) {r : Bool} → length s ≡ n → r ≡ (leb n (length s) && all n ok) → r ≡ all (length s) ok
-front-is-all s n ok e told = told ∙ rw (e, le-leb n n (omega arith))
-
 -- of two places the first of which passes, the second decides
 all-two : (ok : ℕ → Bool) → ok 0 ≡ true → ok 1 ≡ all 2 ok
 unfolding firstBad

@@ -6,12 +6,13 @@ use native.Mathlib.Omega.{arith}
 use borrow.Author.Needs.{needs}
 use denote.Ref.{now}
 use lib.Dec.{lit<}
+use lib.ListN.{length}
 use Rattle.run.specs.First.{atMost}
 use Rattle.run.proofs.Chain.{both-fit-if, both-fit, each-fits}
-use Rattle.run.proofs.Passing.{all-every}
+use Rattle.run.proofs.Passing.{all-every, front-all}
 use Rattle.dpcch.specs.Outcome.{digitsVerdict}
 use Rattle.dpcch.proofs.Laws.{sum}
-use Rattle.dpcch_fits.proofs.Laws.{front-is-all, command-told, pilot-told}
+use Rattle.dpcch_fits.proofs.Laws.{command-told, pilot-told}
 use Rattle.dpcch_fits.proofs.digits_fit.Statement.{statement}
 use Rattle.dpcch_fits.proofs.digits_fit.Tie as tie
 
@@ -61,7 +62,7 @@ returns c =
     let f = start .args .f in
     let xs = now (start .args .xs) in
     let w = start .pre .0 in
-    let bits = front-is-all xs (f .slot) (atMost 1 xs) (w .slot-ok) (c .before .all-at-most .ensures) in
+    let bits = front-all (length xs) (f .slot) (atMost 1 xs) (w .slot-ok) (c .before .all-at-most .ensures) in
     both-fit-if _ _ (c .both2 .ensures) (each-fits 0 4 _ _ (lit< tt) bits)
     (λ good. both-fit _ _ (c .before .before .both .ensures)
     (each-fits _ 5 _ _ (lit< tt) (command-told f xs w (start .pre .1) (all-every _ (atMost 1 xs) (sym bits ∙ good))))
