@@ -10,11 +10,15 @@ ghost use Rattle.dpcch.specs.Rule.{frameOf};
 ghost use Rattle.dpcch.specs.Outcome.{slotFields};
 ghost use Rattle.dpcch.specs.Ready.{FrameReady, Room, FieldBits};
 
-// Whether all digits of a run are bits.
+// Whether all digits of a run are bits. A frame's runs of fields have fifteen digits or thirty, which are worth a look whose length is a number.
 fn are_bits(s: &[u8]) -> bool
     ensures { λ r. ⌜ r ≡ all (length (now (s .entry))) (atMost 1 (now (s .entry))) ⌝ }
 {
-    s.len() <= scan::first_above(s, 1)
+    match s.len() {
+        15 => scan::all_at_most(s, 1, 15),
+        30 => scan::all_at_most(s, 1, 30),
+        _ => s.len() <= scan::first_above(s, 1),
+    }
 }
 
 // Whether the fields of all slots are good: each run is looked at as a whole, and a slot by itself only where one of them is not.
