@@ -41,14 +41,14 @@ def bar(y, label, fields, length):
         if count and share > 7 * len(str(count)) + 2:
             yield svg.text(x + share / 2, y + 12, str(count), 11)
         x += share
-    yield svg.text(LEFT + WIDE + 10, y + 12, f"{length} = " + " + ".join(str(count) for field, count in fields), 11, "start")
+    parts = " = " + " + ".join(str(count) for field, count in fields) if len(fields) > 1 else ""
+    yield svg.text(LEFT + WIDE + 10, y + 12, f"{length}{parts}", 11, "start")
 
 
-def formats(y, title, slots):
+def formats(y, title, slots, *notes):
     """A table of formats: a bar for each."""
     order = [field for field, count in slots[0][0]]
-    yield from heading(y, title, "Each bar is one slot, drawn over the full width whatever its length: a digit is wide in a short slot and narrow in a long one.",
-                       "At the right stand the digits of the slot and those of its fields, in their order.")
+    yield from heading(y, title, *notes)
     yield from legend(y + 58, order)
     for number, (fields, length) in enumerate(slots):
         yield from bar(y + HEAD + ROW * number, f"format {number}", fields, length)
@@ -100,11 +100,18 @@ def pccpch(y, slot, data, silent, block):
 
 
 def draw(tree):
-    downlink = slot_specs.slots(tree, slot_specs.FORMATS, "formats")
+    tables = (
+        ("Downlink DPCH: the fields of a slot", slot_specs.slots(tree, slot_specs.DPCH),
+         "Each bar is one slot, drawn over the full width whatever its length: a digit is wide in a short slot and narrow in a long one.",
+         "At the right stand the digits of the slot and those of its fields, in their order."),
+        ("Uplink DPDCH: the only field of a slot", slot_specs.dpdch(tree), "As above. A slot is its data, whichever slot of the frame it is; nothing is DTX."),
+        ("Uplink DPCCH: the fields of a slot", slot_specs.slots(tree, slot_specs.DPCCH), "As above. Every slot has ten digits; the pilot stands first, the TPC command last."),
+    )
     length, tail, numbers = slot_specs.pich(tree)
     parts, y = [], 28
-    parts += formats(y, "Downlink DPCH: the fields of a slot", downlink)
-    y += HEAD + ROW * len(downlink) + 36
+    for title, slots, *notes in tables:
+        parts += formats(y, title, slots, *notes)
+        y += HEAD + ROW * len(slots) + 36
     parts += pich(y, length, tail, numbers)
     y += 46 + ROW * len(numbers) + 44
     parts += pccpch(y, *slot_specs.pccpch(tree), slot_specs.block(tree))

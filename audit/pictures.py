@@ -22,18 +22,27 @@ def drawn_anew(tree, picture):
         yield f"{picture.TARGET} is not what is drawn from the source: make pictures"
 
 
-def format_table(tree):
-    """The page of rules has the table of formats as well, in the columns of the spec."""
-    rows = slot_specs.listed(tree, slot_specs.FORMATS, "formats")
-    for number, row in enumerate(rows):
-        line = "| " + " | ".join(map(str, (number, *row.values()))) + " |"
-        if tree.has(RULES) and line not in tree.text(RULES).splitlines():
-            yield f"{RULES}: the table of formats has no row {line}"
+def tables(tree):
+    """The tables that the page of rules has as well: what each is called, and the cells of its rows behind the number. The downlink's has the columns of the
+    spec, those of the uplink have the fields in their order and then the slot."""
+    yield "formats", [row.values() for row in slot_specs.listed(tree, *slot_specs.DPCH)]
+    for slots in (slot_specs.dpdch(tree), slot_specs.slots(tree, slot_specs.DPCCH)):
+        yield "the uplink's formats", [[count for field, count in fields] + [length] for fields, length in slots]
+    yield "the uplink's pilot bits", slot_specs.pilots(tree)
+
+
+def rules_tables(tree):
+    lines = tree.text(RULES).splitlines() if tree.has(RULES) else None
+    for name, rows in tables(tree):
+        for number, cells in enumerate(rows):
+            line = "| " + " | ".join(map(str, (number, *cells))) + " |"
+            if lines is not None and line not in lines:
+                yield f"{RULES}: the table of {name} has no row {line}"
 
 
 def faults(tree):
     try:
-        return [fault for picture in PICTURES for fault in drawn_anew(tree, picture)] + list(format_table(tree))
+        return [fault for picture in PICTURES for fault in drawn_anew(tree, picture)] + list(rules_tables(tree))
     except slot_specs.Unread as problem:
         return [str(problem)]
 

@@ -4,7 +4,10 @@ A reader that does not find the form of words it looks for says so: the spec has
 """
 import re
 
-FORMATS, PICH, PCCPCH, STTD = (f"crates/{name}.antt" for name in ("dpch/specs/Formats", "pich/specs/Rule", "pccpch/specs/Rule", "sttd/specs/Rule"))
+FORMATS, UPLINK, PILOTS, PICH, PCCPCH, STTD = (f"crates/{name}.antt" for name in (
+    "dpch/specs/Formats", "dpch/specs/Uplink", "dpch/specs/UplinkPilots", "pich/specs/Rule", "pccpch/specs/Rule", "sttd/specs/Rule"))
+# The tables of formats: the file, the table's name, the definition of its rows and that of the fields' order.
+DPCH, DPCCH = (FORMATS, "formats", "row", "widths"), (UPLINK, "dpcchFormats", "dpcchRow", "dpcchWidths")
 
 
 class Unread(Exception):
@@ -18,28 +21,47 @@ def found(tree, path, form):
     return match
 
 
-def listed(tree, path, name):
-    """The rows of a table of formats: each a dictionary from the name of a column to its number. The columns are those of the definition `row`."""
-    columns = found(tree, path, r"^row ([\w ]+) =$")[1].split()
+def listed(tree, path, name, row, widths):
+    """The rows of a table of formats: each a dictionary from the name of a column to its number. The columns are those of the definition of a row."""
+    columns = found(tree, path, rf"^{row} ([\w ]+) =")[1].split()
     table = found(tree, path, rf"^{name} =\n(.*?)\[\]$")[1]
-    rows = [[int(word) for word in line.split()] for line in re.findall(r"\brow ((?:\d+ ?)+)$", table, re.M)]
+    rows = [[int(word) for word in line.split()] for line in re.findall(rf"\b{row} ((?:\d+ ?)+)$", table, re.M)]
     if not rows or any(len(row) != len(columns) for row in rows):
         raise Unread(f"{path}: a row of {name} does not have the columns {columns}")
     return [dict(zip(columns, row)) for row in rows]
 
 
-def fields(tree, path):
-    """The fields of a slot in their order: those of the definition `widths`."""
-    return re.findall(r"f \.(\w+)", found(tree, path, r"^widths f = (.*)$")[1])
+def fields(tree, path, name, row, widths):
+    """The fields of a slot in their order: those of the definition of their widths."""
+    return re.findall(r"f \.(\w+)", found(tree, path, rf"^{widths} f = (.*?)$")[1])
 
 
-def slots(tree, path, name):
+def slots(tree, table):
     """Each format of a table as the list of its fields and widths, and its length. The fields must fill the slot."""
-    order, rows = fields(tree, path), listed(tree, path, name)
+    path, order, rows = table[0], fields(tree, *table), listed(tree, *table)
     for row in rows:
         if sum(row[field] for field in order) != row["slot"]:
             raise Unread(f"{path}: the fields of {row} do not fill its slot")
     return [([(field, row[field]) for field in order], row["slot"]) for row in rows]
+
+
+def dpdch(tree):
+    """The same of the uplink DPDCH, whose only field is data."""
+    sizes = [int(word) for word in found(tree, UPLINK, r"^dpdchSizes = ((?:\d+ ∷ )+)\[\]$")[1].split(" ∷ ")[:-1]]
+    return [([("data", size)], size) for size in sizes]
+
+
+def pilots(tree):
+    """The pilot bits of the uplink DPCCH: for each slot the patterns of 3 to 8 bits."""
+    rows = []
+    for name in ("table3", "table4"):
+        table = found(tree, PILOTS, rf"^{name} =\n(.*?)\n    ∷ \[\]$")[1]
+        rows.append(["".join(re.findall(r"[01]", line)) for line in table.splitlines()])
+    patterns = [int(word) for word in found(tree, PILOTS, r"^patterns = ((?:\d+ ∷ )+)\[\]$")[1].split(" ∷ ")[:-1]]
+    joined = [first + second for first, second in zip(*rows, strict=True)]
+    if any(len(row) != sum(patterns) for row in joined):
+        raise Unread(f"{PILOTS}: a row does not have the patterns {patterns}")
+    return [[row[sum(patterns[:at]):sum(patterns[:at + 1])] for at in range(len(patterns))] for row in joined]
 
 
 def pich(tree):

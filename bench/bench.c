@@ -6,6 +6,8 @@
 int main(int n_arguments, char **arguments) {
     bench_dpch();
     bench_frame();
+    bench_dpdch();
+    bench_dpcch();
     bench_pich();
     bench_pccpch();
     bench_sttd();

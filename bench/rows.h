@@ -4,6 +4,8 @@
 
 void bench_dpch(void);
 void bench_frame(void);
+void bench_dpdch(void);
+void bench_dpcch(void);
 void bench_pich(void);
 void bench_pccpch(void);
 void bench_sttd(void);

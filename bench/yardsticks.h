@@ -20,6 +20,18 @@
                                uint8_t *out, size_t n_out, const uint8_t *commands, size_t n_commands);                         \
     uint64_t whose##_frame_read(size_t format, const uint8_t *frame, size_t n_frame, uint8_t *data, size_t n_data,              \
                                 uint8_t *tfci, size_t n_tfci, uint8_t *commands, size_t n_commands);                            \
+    uint64_t whose##_dpdch_map(size_t format, const uint8_t *data, size_t n_data, uint8_t *out, size_t n_out);                  \
+    uint64_t whose##_dpdch_read(size_t format, const uint8_t *run, size_t n_run, uint8_t *data, size_t n_data);                 \
+    uint64_t whose##_dpdch_frame_map(size_t format, const uint8_t *data, size_t n_data, uint8_t *out, size_t n_out);            \
+    uint64_t whose##_dpdch_frame_read(size_t format, const uint8_t *frame, size_t n_frame, uint8_t *data, size_t n_data);       \
+    uint64_t whose##_dpcch_map(size_t format, size_t slot, size_t tpc, const uint8_t *tfci, size_t n_tfci, const uint8_t *fbi,  \
+                               size_t n_fbi, uint8_t *out, size_t n_out);                                                       \
+    uint64_t whose##_dpcch_read(size_t format, size_t slot, const uint8_t *run, size_t n_run, uint8_t *tfci, size_t n_tfci,     \
+                                uint8_t *fbi, size_t n_fbi);                                                                    \
+    uint64_t whose##_dpcch_frame_map(size_t format, const uint8_t *tfci, size_t n_tfci, const uint8_t *fbi, size_t n_fbi,       \
+                                     uint8_t *out, size_t n_out, const uint8_t *commands, size_t n_commands);                   \
+    uint64_t whose##_dpcch_frame_read(size_t format, const uint8_t *frame, size_t n_frame, uint8_t *tfci, size_t n_tfci,        \
+                                      uint8_t *fbi, size_t n_fbi, uint8_t *commands, size_t n_commands);                        \
     uint64_t whose##_pich_q(size_t np, size_t pi, size_t sfn);                                                                  \
     uint64_t whose##_pich_map(size_t np, const uint8_t *indicators, size_t n_indicators, uint8_t *frame, size_t n_frame);       \
     uint64_t whose##_pich_read(size_t np, const uint8_t *frame, size_t n_frame, uint8_t *indicators, size_t n_indicators);      \

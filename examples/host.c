@@ -75,6 +75,32 @@ static int slot(void) {
     return 0;
 }
 
+/* An uplink control slot of format 2 from its fields, read back, and read as another slot; then ten digits of uplink data. */
+static int uplink(void) {
+    const uint8_t tfci[2] = {0, 1}, fbi[1] = {1}, data[10] = {0, 1, 1, 0, 0, 1, 0, 1, 1, 1};
+    uint8_t digits[10], tfci_back[2], fbi_back[1];
+
+    uint64_t mapped = slt_dpcch_map(2, 1, 1, tfci, sizeof tfci, fbi, sizeof fbi, digits, sizeof digits);
+    print_answer("slt_dpcch_map", mapped);
+    if (SLT_NUMBER(mapped) != SLT_DONE) {
+        return 1;
+    }
+    print_digits("DPCCH slot", digits, sizeof digits);
+
+    uint64_t read = slt_dpcch_read(2, 1, digits, sizeof digits, tfci_back, sizeof tfci_back, fbi_back, sizeof fbi_back);
+    print_answer("slt_dpcch_read", read);
+    if (SLT_NUMBER(read) != SLT_DONE || memcmp(tfci, tfci_back, sizeof tfci) != 0 || fbi_back[0] != fbi[0]) {
+        return 1;
+    }
+    print_answer("slt_dpcch_read as slot 2",
+                 slt_dpcch_read(2, 2, digits, sizeof digits, tfci_back, sizeof tfci_back, fbi_back, sizeof fbi_back));
+
+    print_answer("slt_dpdch_map", slt_dpdch_map(0, data, sizeof data, digits, sizeof digits));
+    print_digits("DPDCH slot", digits, sizeof digits);
+    print_answer("slt_dpdch_map of format 7", slt_dpdch_map(7, data, sizeof data, digits, sizeof digits));
+    return 0;
+}
+
 int main(void) {
-    return paging() || slot();
+    return paging() || slot() || uplink();
 }

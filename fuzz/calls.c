@@ -66,6 +66,41 @@ static void frame_read(struct test *t) {
                             n(t, 3));
 }
 
+static void dpdch_map(struct test *t) {
+    t->got = slt_dpdch_map(t->given[0], digits(t, 0), n(t, 0), digits(t, 1), n(t, 1));
+}
+
+static void dpdch_read(struct test *t) {
+    t->got = slt_dpdch_read(t->given[0], digits(t, 0), n(t, 0), digits(t, 1), n(t, 1));
+}
+
+static void dpdch_frame_map(struct test *t) {
+    t->got = slt_dpdch_frame_map(t->given[0], digits(t, 0), n(t, 0), digits(t, 1), n(t, 1));
+}
+
+static void dpdch_frame_read(struct test *t) {
+    t->got = slt_dpdch_frame_read(t->given[0], digits(t, 0), n(t, 0), digits(t, 1), n(t, 1));
+}
+
+static void dpcch_map(struct test *t) {
+    t->got = slt_dpcch_map(t->given[0], t->given[1], t->given[2], digits(t, 0), n(t, 0), digits(t, 1), n(t, 1), digits(t, 2),
+                           n(t, 2));
+}
+
+static void dpcch_read(struct test *t) {
+    t->got = slt_dpcch_read(t->given[0], t->given[1], digits(t, 0), n(t, 0), digits(t, 1), n(t, 1), digits(t, 2), n(t, 2));
+}
+
+static void dpcch_frame_map(struct test *t) {
+    t->got = slt_dpcch_frame_map(t->given[0], digits(t, 0), n(t, 0), digits(t, 1), n(t, 1), digits(t, 2), n(t, 2), digits(t, 3),
+                                 n(t, 3));
+}
+
+static void dpcch_frame_read(struct test *t) {
+    t->got = slt_dpcch_frame_read(t->given[0], digits(t, 0), n(t, 0), digits(t, 1), n(t, 1), digits(t, 2), n(t, 2), digits(t, 3),
+                                  n(t, 3));
+}
+
 static void sttd_digits(struct test *t) {
     t->got = slt_sttd_digits(digits(t, 0), n(t, 0), digits(t, 1), n(t, 1));
 }
@@ -123,6 +158,14 @@ const struct call calls[] = {
     {"slt_slot_read", 2, "111", slot_read},
     {"slt_frame_map", 1, "1111", frame_map},
     {"slt_frame_read", 1, "1111", frame_read},
+    {"slt_dpdch_map", 1, "11", dpdch_map},
+    {"slt_dpdch_read", 1, "11", dpdch_read},
+    {"slt_dpdch_frame_map", 1, "11", dpdch_frame_map},
+    {"slt_dpdch_frame_read", 1, "11", dpdch_frame_read},
+    {"slt_dpcch_map", 3, "111", dpcch_map},
+    {"slt_dpcch_read", 2, "111", dpcch_read},
+    {"slt_dpcch_frame_map", 1, "1111", dpcch_frame_map},
+    {"slt_dpcch_frame_read", 1, "1111", dpcch_frame_read},
     {"slt_sttd_digits", 0, "11", sttd_digits},
     {"slt_sttd_values", 0, "44", sttd_values},
     {"slt_pccpch_map", 0, "111", pccpch_map},

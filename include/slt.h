@@ -33,12 +33,12 @@ extern "C" {
 
 /* The numbers of a refusal. */
 #define SLT_DONE 0u
-#define SLT_REFUSED_FORMAT 1u  /* format above 16 */
+#define SLT_REFUSED_FORMAT 1u  /* a format that the channel's own table lacks: DPCH above 16, DPDCH above 6, DPCCH above 3 */
 #define SLT_REFUSED_SLOT 2u    /* slot number above 14 */
 #define SLT_REFUSED_LENGTH 3u  /* a lent run has the wrong length; the place says which run */
 #define SLT_REFUSED_DIGIT 4u   /* digit not allowed */
 #define SLT_REFUSED_TPC 5u     /* TPC command not 0 or 1; reading: TPC digits DTX or unlike */
-#define SLT_REFUSED_TFCI 6u    /* TFCI digits mixed, some bits and some DTX */
+#define SLT_REFUSED_TFCI 6u    /* TFCI digits mixed, some bits and some DTX; no call of the uplink gives it */
 #define SLT_REFUSED_PILOT 7u   /* pilot differs from the table */
 #define SLT_REFUSED_NP 8u      /* Np not 18, 36, 72, 144 */
 #define SLT_REFUSED_FRAME 9u   /* PICH or P-CCPCH frame that no fields give */
@@ -68,7 +68,7 @@ uint64_t slt_pich_map(size_t np, const uint8_t *indicators, size_t n_indicators,
 /* The np indicators of a frame of 300 digits. */
 uint64_t slt_pich_read(size_t np, const uint8_t *frame, size_t n_frame, uint8_t *indicators, size_t n_indicators);
 
-/* DPCH slots (TS 25.211, 5.3.2), normal formats 0 to 16, slots 0 to 14. Field order: Data1, TPC, TFCI, Data2, pilot.
+/* Downlink DPCH slots (TS 25.211, 5.3.2), normal formats 0 to 16, slots 0 to 14. Field order: Data1, TPC, TFCI, Data2, pilot.
  * A slot's TFCI digits are all bits or all DTX (2), in every format that has some. */
 
 /* Command, data (Data1 before Data2 in one run) and TFCI into a slot. Order of runs for refusal 3: data, TFCI, output. */
@@ -79,12 +79,37 @@ uint64_t slt_slot_map(size_t format, size_t slot, size_t tpc, const uint8_t *dat
 uint64_t slt_slot_read(size_t format, size_t slot, const uint8_t *run, size_t n_run, uint8_t *data, size_t n_data,
                        uint8_t *tfci, size_t n_tfci);
 
-/* DPCH frames: slots 0 to 14 of one format. Data, TFCI and output are fifteen times a slot's; commands are 15 bytes, 0 or 1.
+/* Downlink DPCH frames: slots 0 to 14 of one format. Data, TFCI and output are fifteen times a slot's; commands are 15 bytes, 0 or 1.
  * Order of runs for refusal 3: map data, TFCI, output, commands; read frame, data, TFCI, commands. */
 uint64_t slt_frame_map(size_t format, const uint8_t *data, size_t n_data, const uint8_t *tfci, size_t n_tfci, uint8_t *out,
                        size_t n_out, const uint8_t *commands, size_t n_commands);
 uint64_t slt_frame_read(size_t format, const uint8_t *frame, size_t n_frame, uint8_t *data, size_t n_data, uint8_t *tfci,
                         size_t n_tfci, uint8_t *commands, size_t n_commands);
+
+/* Uplink DPDCH (TS 25.211, 5.2.1.1), formats 0 to 6: a slot is 10, 20, 40, 80, 160, 320 or 640 data digits, each 0 or 1, and a frame
+ * is fifteen slots. No slot number is needed. Order of runs for refusal 3: map data, output; read slot or frame, data. */
+uint64_t slt_dpdch_map(size_t format, const uint8_t *data, size_t n_data, uint8_t *out, size_t n_out);
+uint64_t slt_dpdch_read(size_t format, const uint8_t *run, size_t n_run, uint8_t *data, size_t n_data);
+uint64_t slt_dpdch_frame_map(size_t format, const uint8_t *data, size_t n_data, uint8_t *out, size_t n_out);
+uint64_t slt_dpdch_frame_read(size_t format, const uint8_t *frame, size_t n_frame, uint8_t *data, size_t n_data);
+
+/* Uplink DPCCH (TS 25.211, 5.2.1.1), normal formats 0 to 3, slots 0 to 14. Field order: pilot, TFCI, FBI, TPC; ten digits a slot, each 0
+ * or 1. Formats 0 and 2 have two TFCI digits, formats 2 and 3 one FBI digit. */
+
+/* Command, TFCI and FBI into a slot. Order of runs for refusal 3: TFCI, FBI, output. */
+uint64_t slt_dpcch_map(size_t format, size_t slot, size_t tpc, const uint8_t *tfci, size_t n_tfci, const uint8_t *fbi,
+                       size_t n_fbi, uint8_t *out, size_t n_out);
+
+/* TFCI and FBI of a slot, and its TPC command as the value. Order of runs for refusal 3: slot, TFCI, FBI. */
+uint64_t slt_dpcch_read(size_t format, size_t slot, const uint8_t *run, size_t n_run, uint8_t *tfci, size_t n_tfci, uint8_t *fbi,
+                        size_t n_fbi);
+
+/* DPCCH frames: slots 0 to 14 of one format. TFCI, FBI and output are fifteen times a slot's; commands are 15 bytes, 0 or 1.
+ * Order of runs for refusal 3: map TFCI, FBI, output, commands; read frame, TFCI, FBI, commands. */
+uint64_t slt_dpcch_frame_map(size_t format, const uint8_t *tfci, size_t n_tfci, const uint8_t *fbi, size_t n_fbi, uint8_t *out,
+                             size_t n_out, const uint8_t *commands, size_t n_commands);
+uint64_t slt_dpcch_frame_read(size_t format, const uint8_t *frame, size_t n_frame, uint8_t *tfci, size_t n_tfci, uint8_t *fbi,
+                              size_t n_fbi, uint8_t *commands, size_t n_commands);
 
 /* STTD (TS 25.211, 5.3.1.1.1). Digits: a multiple of 4, at most 4294967295 of them, the output as long as the input. */
 uint64_t slt_sttd_digits(const uint8_t *input, size_t n_input, uint8_t *out, size_t n_out);

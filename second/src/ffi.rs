@@ -101,6 +101,97 @@ pub fn frame_read(
     })
 }
 
+// Uplink DPDCH
+
+unsafe extern "C" {
+    fn slt_dpdch_map(format: usize, data: *const u8, n_data: usize, out: *mut u8, n_out: usize) -> u64;
+    fn slt_dpdch_read(format: usize, run: *const u8, n_run: usize, data: *mut u8, n_data: usize) -> u64;
+    fn slt_dpdch_frame_map(format: usize, data: *const u8, n_data: usize, out: *mut u8, n_out: usize) -> u64;
+    fn slt_dpdch_frame_read(format: usize, frame: *const u8, n_frame: usize, data: *mut u8, n_data: usize) -> u64;
+}
+
+/// A call of the DPDCH: a format, the run that is given, and the one that is to be written.
+pub type Carry = fn(usize, &mut Lent<u8>, &mut Lent<u8>) -> Answer;
+
+pub fn dpdch_map(format: usize, data: &mut Lent<u8>, out: &mut Lent<u8>) -> Answer {
+    Answer::unpack(unsafe { slt_dpdch_map(format, data.pointer(), data.len(), out.pointer(), out.len()) })
+}
+
+pub fn dpdch_read(format: usize, run: &mut Lent<u8>, data: &mut Lent<u8>) -> Answer {
+    Answer::unpack(unsafe { slt_dpdch_read(format, run.pointer(), run.len(), data.pointer(), data.len()) })
+}
+
+pub fn dpdch_frame_map(format: usize, data: &mut Lent<u8>, out: &mut Lent<u8>) -> Answer {
+    Answer::unpack(unsafe { slt_dpdch_frame_map(format, data.pointer(), data.len(), out.pointer(), out.len()) })
+}
+
+pub fn dpdch_frame_read(format: usize, frame: &mut Lent<u8>, data: &mut Lent<u8>) -> Answer {
+    Answer::unpack(unsafe { slt_dpdch_frame_read(format, frame.pointer(), frame.len(), data.pointer(), data.len()) })
+}
+
+// Uplink DPCCH
+
+unsafe extern "C" {
+    fn slt_dpcch_map(
+        format: usize, slot: usize, tpc: usize, tfci: *const u8, n_tfci: usize, fbi: *const u8, n_fbi: usize,
+        out: *mut u8, n_out: usize,
+    ) -> u64;
+    fn slt_dpcch_read(
+        format: usize, slot: usize, run: *const u8, n_run: usize, tfci: *mut u8, n_tfci: usize, fbi: *mut u8,
+        n_fbi: usize,
+    ) -> u64;
+    fn slt_dpcch_frame_map(
+        format: usize, tfci: *const u8, n_tfci: usize, fbi: *const u8, n_fbi: usize, out: *mut u8, n_out: usize,
+        commands: *const u8, n_commands: usize,
+    ) -> u64;
+    fn slt_dpcch_frame_read(
+        format: usize, frame: *const u8, n_frame: usize, tfci: *mut u8, n_tfci: usize, fbi: *mut u8, n_fbi: usize,
+        commands: *mut u8, n_commands: usize,
+    ) -> u64;
+}
+
+pub fn dpcch_map(
+    format: usize, slot: usize, tpc: usize, tfci: &mut Lent<u8>, fbi: &mut Lent<u8>, out: &mut Lent<u8>,
+) -> Answer {
+    let (n_tfci, n_fbi, n_out) = (tfci.len(), fbi.len(), out.len());
+    Answer::unpack(unsafe {
+        slt_dpcch_map(format, slot, tpc, tfci.pointer(), n_tfci, fbi.pointer(), n_fbi, out.pointer(), n_out)
+    })
+}
+
+pub fn dpcch_read(
+    format: usize, slot: usize, run: &mut Lent<u8>, tfci: &mut Lent<u8>, fbi: &mut Lent<u8>,
+) -> Answer {
+    let (n_run, n_tfci, n_fbi) = (run.len(), tfci.len(), fbi.len());
+    Answer::unpack(unsafe {
+        slt_dpcch_read(format, slot, run.pointer(), n_run, tfci.pointer(), n_tfci, fbi.pointer(), n_fbi)
+    })
+}
+
+pub fn dpcch_frame_map(
+    format: usize, tfci: &mut Lent<u8>, fbi: &mut Lent<u8>, out: &mut Lent<u8>, commands: &mut Lent<u8>,
+) -> Answer {
+    let (n_tfci, n_fbi, n_out, n_commands) = (tfci.len(), fbi.len(), out.len(), commands.len());
+    Answer::unpack(unsafe {
+        slt_dpcch_frame_map(
+            format, tfci.pointer(), n_tfci, fbi.pointer(), n_fbi, out.pointer(), n_out, commands.pointer(),
+            n_commands,
+        )
+    })
+}
+
+pub fn dpcch_frame_read(
+    format: usize, frame: &mut Lent<u8>, tfci: &mut Lent<u8>, fbi: &mut Lent<u8>, commands: &mut Lent<u8>,
+) -> Answer {
+    let (n_frame, n_tfci, n_fbi, n_commands) = (frame.len(), tfci.len(), fbi.len(), commands.len());
+    Answer::unpack(unsafe {
+        slt_dpcch_frame_read(
+            format, frame.pointer(), n_frame, tfci.pointer(), n_tfci, fbi.pointer(), n_fbi, commands.pointer(),
+            n_commands,
+        )
+    })
+}
+
 // STTD
 
 unsafe extern "C" {

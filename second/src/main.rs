@@ -29,6 +29,8 @@ const CHANNELS: &[Channel] = &[
     ("pich", compare::pich::all),
     ("dpch", compare::dpch::all),
     ("frame", compare::frame::all),
+    ("dpdch", compare::dpdch::all),
+    ("dpcch", compare::dpcch::all),
     ("sttd", compare::sttd::all),
     ("pccpch", compare::pccpch::all),
     ("aich", compare::aich::all),

@@ -4,6 +4,7 @@ use crate::question;
 use crate::question::DIGITS;
 use crate::question::number;
 use crate::question::run;
+use crate::uplink;
 use pich::Pi;
 use run::Verdict;
 
@@ -48,6 +49,7 @@ fn write_one(call: usize, line: &[u8], out: &mut [u8]) -> Verdict {
         question::PCCPCH_READ => pccpch_read(line, out),
         question::PICH_MAP => pich_map(line, out),
         question::PICH_READ => pich_read(line, out),
+        question::DPDCH_MAP..=question::DPCCH_FRAME_MAP => uplink::write_one(call, line, out),
         _ => sttd::digits(run(line, 1), out),
     }
 }
@@ -72,7 +74,9 @@ fn write(call: usize, line: &[u8], first: &mut [u8], second: &mut [u8], third: &
     match call {
         question::SLOT_READ => slot_read(line, second, third),
         question::PCCPCH_MAP => pccpch_map(line, second, third),
+        question::DPCCH_READ => uplink::read(line, second, third),
         question::FRAME_READ => frame_read(line, first, second, third),
+        question::DPCCH_FRAME_READ => uplink::frame_read(line, first, second, third),
         _ => answer::verdict(write_one(call, line, third)),
     }
 }

@@ -1,2 +1,3 @@
-mod Past
+pub mod Past
 pub mod Exact
+pub mod Heads

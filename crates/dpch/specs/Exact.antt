@@ -1,15 +1,18 @@
 -- What the tables obey. Each statement is proved in proofs/Exact.antt under its name in small letters.
 -- Assumes nothing.
-use Prim.Native.Nat.{ℕ, _<_, _≤_}
+use Prim.Native.Nat.{ℕ, _*_, _^_, _<_, _≤_}
 use mathlib.Core.Path.{_≡_}
 use lib.ListN.{length, getD, take}
-use Rattle.run.specs.Fields.{total}
-use Rattle.dpch.specs.Formats.{formatOf, widths}
+use Rattle.run.specs.First.{Every, atMost}
+use Rattle.dpch.specs.Formats.{formatOf}
 use Rattle.dpch.specs.Pilots.{pilotSource, pilotOf}
+use Rattle.dpch.specs.Uplink.{dpdchSize, dpcchFormat}
+use Rattle.dpch.specs.UplinkPilots.{dpcchPilot, pinnedPilot}
+use Rattle.dpch.specs.Layouts.{Fills, Channel, layoutOf}
 
--- the five fields fill the slot exactly: of any number, the row of zeros included
+-- the fields fill the slot exactly, on both links: of any number, the layouts of no format included
 abbrev pub FieldsFill : Type 0
-FieldsFill = (format : ℕ) → total (widths (formatOf format)) ≡ formatOf format .slot
+FieldsFill = (channel : Channel) (format : ℕ) → Fills (layoutOf channel format)
 
 -- no slot is longer than 1280 digits, and each format has TPC bits
 pub record Sizes (format : ℕ) : Type 0 where
@@ -28,3 +31,34 @@ pub record Pilot (format slot : ℕ) : Type 0 where
 
 abbrev pub FormatPilots : Type 0
 FormatPilots = (format slot : ℕ) → Pilot format slot
+
+-- ---- the uplink
+
+-- a DPDCH slot has 10·2^format digits
+abbrev pub DpdchSizes : Type 0
+DpdchSizes = (format : ℕ) → format ≤ 6 → dpdchSize format ≡ 10 * 2 ^ format
+
+-- no DPDCH slot is longer than 640 digits
+abbrev pub DpdchShort : Type 0
+DpdchShort = (format : ℕ) → dpdchSize format ≤ 640
+
+-- each DPCCH format has ten digits, two of them TPC, and no field or slot is longer than that
+pub record DpcchSizes (format : ℕ) : Type 0 where
+  pub short : dpcchFormat format .slot ≤ 10
+  pub ten : format ≤ 3 → dpcchFormat format .slot ≡ 10
+  pub two-tpc : format ≤ 3 → dpcchFormat format .tpc ≡ 2
+
+abbrev pub DpcchFormats : Type 0
+DpcchFormats = (format : ℕ) → DpcchSizes format
+
+-- a DPCCH format's pilot has as many digits as the format says, and every digit is a bit
+pub record DpcchPilot (format slot : ℕ) : Type 0 where
+  pub long : length (dpcchPilot (dpcchFormat format .pilot) slot) ≡ dpcchFormat format .pilot
+  pub digits : Every (atMost 1 (dpcchPilot (dpcchFormat format .pilot) slot)) (length (dpcchPilot (dpcchFormat format .pilot) slot))
+
+abbrev pub DpcchPilots : Type 0
+DpcchPilots = (format slot : ℕ) → DpcchPilot format slot
+
+-- the printed patterns, of every length and in every slot, are frame synchronisation words in the shadowed columns and 1 elsewhere
+abbrev pub PilotsPinned : Type 0
+PilotsPinned = (bits slot : ℕ) → 3 ≤ bits → bits ≤ 8 → slot < 15 → dpcchPilot bits slot ≡ pinnedPilot bits slot

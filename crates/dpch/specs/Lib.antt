@@ -1,3 +1,7 @@
 pub mod Formats
 pub mod Pilots
+pub mod Uplink
+pub mod UplinkPilots
+pub mod Layouts
+pub mod Heads
 pub mod Exact

@@ -1,5 +1,13 @@
 // The downlink DPCH: slot formats and pilot bits. docs/RULES.md, 'DPCH slot'; TS 25.211, 5.3.2, tables 11 and 12.
+// The tables of the uplink's dedicated channels stand in specs/ too, so that what every layout obeys is said once.
+use run::Verdict;
+use run::lengths;
+use run::or_else;
+use run::refusal;
+use run::unless;
 ghost use mathlib.Core.Path.{_≡_};
+ghost use mathlib.Core.List.{[], _∷_};
+ghost use Rattle.dpch.specs.Heads.{frameHead, slotHead};
 ghost use Rattle.dpch.specs.Formats.{formatOf};
 ghost use Rattle.dpch.specs.Pilots.{pilotRow};
 
@@ -11,6 +19,21 @@ pub struct Format {
     pub tfci: usize,
     pub pilot: usize,
     pub slot: usize,
+}
+
+// The bits of each field of an uplink DPCCH slot, and of the slot.
+pub struct Dpcch {
+    pub pilot: usize,
+    pub tfci: usize,
+    pub fbi: usize,
+    pub tpc: usize,
+    pub slot: usize,
+}
+
+// What a reader of slots answers: the TPC command, 0 where refused.
+pub struct Command {
+    pub verdict: Verdict,
+    pub tpc: usize,
 }
 
 // The format of a number, a row of zeros where there is none. A match becomes a table in read-only memory.
@@ -208,4 +231,35 @@ pub fn pilot_row(slot: usize) -> [u8; 16]
         14 => table[14],
         _ => [1, 1, 0, 0, 1, 1, 0, 0, 1, 1, 0, 0, 1, 1, 0, 0],
     }
+}
+
+// The checks with which a call on a frame begins: the format, up to the last of the channel's table, then the lengths of four runs.
+pub fn frame_head(
+    last: usize,
+    format: usize,
+    first: bool,
+    second: bool,
+    third: bool,
+    fourth: bool,
+) -> Verdict
+    ensures { λ r. ⌜ r ≡ frameHead last format (first ∷ second ∷ third ∷ fourth ∷ []) ⌝ }
+{
+    let right = lengths(first, second, third, fourth);
+    or_else(unless(format <= last, refusal::FORMAT, 0), right)
+}
+
+// .. on a slot: the format, the slot's number, then the lengths of three runs.
+pub fn slot_head(
+    last: usize,
+    format: usize,
+    slot: usize,
+    first: bool,
+    second: bool,
+    third: bool,
+) -> Verdict
+    ensures { λ r. ⌜ r ≡ slotHead last format slot (first ∷ second ∷ third ∷ []) ⌝ }
+{
+    let right = lengths(first, second, third, true);
+    let numbers = or_else(unless(slot <= 14, refusal::SLOT, 0), right);
+    or_else(unless(format <= last, refusal::FORMAT, 0), numbers)
 }

@@ -1,56 +1,69 @@
 -- The theorems of specs/Exact.antt.
 -- Assumes nothing.
 use mathlib.Core.Path.{_≡_, refl, sym, ap, _∙_, subst}
-use mathlib.Core.Bool.{Bool}
 use mathlib.Core.List.{List}
-use Prim.Native.Nat.{ℕ, _*_, _<_}
+use Prim.Native.Nat.{ℕ, _*_, _≤_, _<_}
 use native.Mathlib.Omega.{arith}
 use lib.Dec.{lit<}
 use lib.ListN.{length, getD}
-use Rattle.run.specs.Fields.{joined}
 use Rattle.run.specs.Parts.{part}
 use Rattle.run.specs.Verdicts.{done, Narrow}
-use Rattle.run.proofs.Chain.{or-else-pass, chain-pass, or-else-narrow, check-narrow, lengths-narrow, chain-narrow, one-outcome, number-0}
-use Rattle.run.proofs.Parts.{part-room, part-length, joined-part}
-use Rattle.run.proofs.Table.{tab-same, tab-is}
+use Rattle.run.proofs.Chain.{or-else-pass, chain-pass, or-else-narrow, chain-narrow, one-outcome, number-0}
+use Rattle.run.proofs.Frames as frames
+use Rattle.run.proofs.Frames.{Codec, frame-gives, frame-fits, frame-good, firsts-back, seconds-back}
+use Rattle.run.proofs.Parts.{part-room, part-length}
 use Rattle.dpch.specs.Formats.{formatOf}
+use Rattle.dpch.proofs.Heads.{frame-head-narrow}
 use Rattle.slot.specs.Rule as slot
-use Rattle.slot.specs.Rule.{dataSize, commandIn}
+use Rattle.slot.specs.Rule.{dataSize}
 use Rattle.slot.specs.Outcome as slot-outcome
 use Rattle.slot.proofs.Laws.{sound-format, data-small, tfci-small}
 use Rattle.slot.proofs.Accept as slot-accept
+use Rattle.slot.proofs.Accept.{FieldsOk, DigitsOk}
 use Rattle.slot.proofs.Exact as slot-exact
-use Rattle.frame.specs.Rule.{slotAt, frameOf, dataIn, tfciIn, commandsIn}
-use Rattle.frame.specs.Outcome.{head, mapHead, slotFields, mapVerdict, readHead, slotDigits, readVerdict}
+use Rattle.frame.specs.Rule.{frameOf, dataIn, tfciIn, commandsIn}
+use Rattle.frame.specs.Outcome.{mapHead, mapVerdict, readHead, readVerdict}
 use Rattle.frame.specs.Ready.{Ready}
 use Rattle.frame.specs.Exact.{Gives, Fields, ReadExact, FrameSlots, MapOnce, ReadOnce, Packs}
-use Rattle.frame.proofs.Laws.{frame-length, frame-slot, data-of, tfci-of, data-in-length, tfci-in-length, commands-in-length, command-of}
+use Rattle.frame.proofs.Laws.{shape, frame-length, frame-slot, data-in-length, tfci-in-length, commands-in-length}
 use Rattle.frame.proofs.Accept.{Mapped, mapped, Accepted, accepted, map-headed, read-headed, map-head-pass, read-head-pass}
+
+-- slots of the DPCH are read exactly
+module _ (format : ℕ) (format-ok : format ≤ 16) where
+  slot-mapped : (k c : ℕ) (a b : List ℕ) → k < 15 → length a ≡ dataSize (formatOf format) → length b ≡ formatOf format .tfci → FieldsOk c a b
+      → slot-accept.Mapped format k c a b (formatOf format .slot)
+  unfolding slot-outcome.mapVerdict
+  slot-mapped k c a b h p q fit =
+      slot-accept.mapped format k c a b _
+      (number-0 (or-else-pass (slot-accept.map-head-pass format k _ _ _ format-ok (omega arith) p q refl) (slot-accept.fields-pass c a b 0 0 0 fit)))
+
+  unfoldable codec : Codec (shape format)
+  unfolding shape
+  codec =
+      record {
+        Good = DigitsOk (formatOf format);
+        Fit = FieldsOk;
+        gives = λ k xs h long good. slot-exact.read-gives format k xs good format-ok (omega arith) long;
+        fits = λ k xs h long good. slot-accept.mapped format k _ _ _ _ (number-0 (slot-exact.read-maps format k xs good format-ok (omega arith) long)) .fields;
+        good = λ k c a b h p q fit. slot-exact.mapped-digits-ok format k c a b (slot-mapped k c a b h p q fit);
+        command-back = λ k c a b h p q fit. slot-exact.command-back format k c a b (slot-mapped k c a b h p q fit);
+        first-back = λ k c a b h p q fit. slot-exact.data-back format k c a b (slot-mapped k c a b h p q fit);
+        second-back = λ k c a b h p q fit. slot-exact.tfci-back format k c a b (slot-mapped k c a b h p q fit);
+      }
 
 -- ---- what reading accepts, its fields give
 module _ (format : ℕ) (xs : List ℕ) (a : Accepted format xs (15 * dataSize (formatOf format)) (15 * formatOf format .tfci) 15) where
   long : length xs ≡ 15 * formatOf format .slot
   long = a .room .frame-ok
 
-  slot-long : (k : ℕ) → k < 15 → length (part k (formatOf format .slot) xs) ≡ formatOf format .slot
-  slot-long k h = part-length k 15 (formatOf format .slot) xs h long
-
-  same-slot : (k : ℕ) → k < 15
-      → slotAt (formatOf format) (dataIn (formatOf format) xs) (tfciIn (formatOf format) xs) (commandsIn (formatOf format) xs) k ≡ part k (formatOf format .slot) xs
-  same-slot k h =
-      rw (command-of format xs long k h, data-of format xs long k h, tfci-of format xs long k h)
-      (slot-exact.read-gives format k (part k (formatOf format .slot) xs) (a .slots k h) (a .room .format-ok) (omega arith) (slot-long k h))
-
   read-frame : frameOf (formatOf format) (dataIn (formatOf format) xs) (tfciIn (formatOf format) xs) (commandsIn (formatOf format) xs) ≡ xs
-  unfolding frameOf
-  read-frame = ap joined (tab-same 15 _ (λ (k : ℕ). part k (formatOf format .slot) xs) same-slot) ∙ joined-part 15 (formatOf format .slot) xs long
+  unfolding frameOf dataIn tfciIn commandsIn shape codec
+  read-frame = frame-gives (shape format) (codec format (a .room .format-ok)) xs long (a .slots)
 
-  slot-fields : (k : ℕ) → k < 15 → slotFields format (dataIn (formatOf format) xs) (tfciIn (formatOf format) xs) (commandsIn (formatOf format) xs) k ≡ done
-  slot-fields k h =
-      rw (command-of format xs long k h, data-of format xs long k h, tfci-of format xs long k h)
-      (slot-accept.fields-pass _ _ _ _ _ _
-      (slot-accept.mapped format k _ _ _ _
-      (number-0 (slot-exact.read-maps format k (part k (formatOf format .slot) xs) (a .slots k h) (a .room .format-ok) (omega arith) (slot-long k h))) .fields))
+  slot-fits : (k : ℕ) → k < 15
+      → FieldsOk (getD (commandsIn (formatOf format) xs) k 0) (part k (dataSize (formatOf format)) (dataIn (formatOf format) xs)) (part k (formatOf format .tfci) (tfciIn (formatOf format) xs))
+  unfolding dataIn tfciIn commandsIn shape codec
+  slot-fits = frame-fits (shape format) (codec format (a .room .format-ok)) xs long (a .slots)
 
   read-taken : mapVerdict format (dataIn (formatOf format) xs) (tfciIn (formatOf format) xs) (15 * formatOf format .slot) (commandsIn (formatOf format) xs) ≡ done
   unfolding mapVerdict
@@ -62,30 +75,16 @@ module _ (format : ℕ) (xs : List ℕ) (a : Accepted format xs (15 * dataSize (
         fields = record { data-ok = data-in-length format xs long; tfci-ok = tfci-in-length format xs long; commands-ok = commands-in-length format xs long };
         frame-ok = refl;
       }))
-      (chain-pass 15 _ slot-fields)
+      (chain-pass 15 _ (λ k h. slot-accept.fields-pass _ _ _ _ _ _ (slot-fits k h)))
 
 -- ---- what mapping gives, reading accepts, and gives the fields back
 module _ (format : ℕ) (d tfci commands : List ℕ) (m : Mapped format d tfci (15 * formatOf format .slot) commands) where
   f-ok : Ready format (length d) (length tfci) (length commands)
   f-ok = m .room .fields
 
-  at-slot : (k : ℕ) → k < 15 → part k (formatOf format .slot) (frameOf (formatOf format) d tfci commands) ≡ slotAt (formatOf format) d tfci commands k
-  at-slot k h = frame-slot format d tfci commands (f-ok .data-ok) (f-ok .tfci-ok) k h
-
-  slot-mapped : (k : ℕ) → k < 15
-      → slot-accept.Mapped format k (getD commands k 0) (part k (dataSize (formatOf format)) d) (part k (formatOf format .tfci) tfci) (formatOf format .slot)
-  unfolding slot-outcome.mapVerdict
-  slot-mapped k h =
-      slot-accept.mapped format k _ _ _ _
-      (number-0
-      (or-else-pass
-      (slot-accept.map-head-pass format k _ _ _ (m .room .format-ok) (omega arith) (part-length k 15 (dataSize (formatOf format)) d h (f-ok .data-ok)) (part-length k 15 (formatOf format .tfci) tfci h (f-ok .tfci-ok)) refl)
-      (slot-accept.fields-pass _ _ _ 0 0 0 (m .slots k h))))
-
-  slot-digits : (k : ℕ) → k < 15 → slotDigits format (frameOf (formatOf format) d tfci commands) k ≡ done
-  slot-digits k h =
-      rw (at-slot k h)
-      (slot-accept.digits-pass (formatOf format) k _ _ (slot-exact.mapped-digits-ok format k _ _ _ (slot-mapped k h)))
+  slot-good : (k : ℕ) → k < 15 → DigitsOk (formatOf format) k (part k (formatOf format .slot) (frameOf (formatOf format) d tfci commands))
+  unfolding frameOf shape codec
+  slot-good = frame-good (shape format) (codec format (m .room .format-ok)) d tfci commands (f-ok .data-ok) (f-ok .tfci-ok) (m .slots)
 
   mapped-accepted : readVerdict format (frameOf (formatOf format) d tfci commands) (15 * dataSize (formatOf format)) (15 * formatOf format .tfci) 15 ≡ done
   unfolding readVerdict
@@ -97,30 +96,19 @@ module _ (format : ℕ) (d tfci commands : List ℕ) (m : Mapped format d tfci (
         fields = record { data-ok = refl; tfci-ok = refl; commands-ok = refl };
         frame-ok = frame-length format d tfci commands (f-ok .data-ok) (f-ok .tfci-ok);
       }))
-      (chain-pass 15 _ slot-digits)
+      (chain-pass 15 _ (λ k h. slot-accept.digits-pass (formatOf format) k _ _ (slot-good k h)))
 
   data-back : dataIn (formatOf format) (frameOf (formatOf format) d tfci commands) ≡ d
-  unfolding dataIn
-  data-back =
-      ap joined
-      (tab-same 15 _ (λ (k : ℕ). part k (dataSize (formatOf format)) d)
-      (λ k h. ap (slot.dataIn (formatOf format)) (at-slot k h) ∙ slot-exact.data-back format k _ _ _ (slot-mapped k h)))
-      ∙ joined-part 15 (dataSize (formatOf format)) d (f-ok .data-ok)
+  unfolding frameOf dataIn shape codec
+  data-back = firsts-back (shape format) (codec format (m .room .format-ok)) d tfci commands (f-ok .data-ok) (f-ok .tfci-ok) (m .slots)
 
   tfci-back : tfciIn (formatOf format) (frameOf (formatOf format) d tfci commands) ≡ tfci
-  unfolding tfciIn
-  tfci-back =
-      ap joined
-      (tab-same 15 _ (λ (k : ℕ). part k (formatOf format .tfci) tfci)
-      (λ k h. ap (slot.tfciIn (formatOf format)) (at-slot k h) ∙ slot-exact.tfci-back format k _ _ _ (slot-mapped k h)))
-      ∙ joined-part 15 (formatOf format .tfci) tfci (f-ok .tfci-ok)
+  unfolding frameOf tfciIn shape codec
+  tfci-back = seconds-back (shape format) (codec format (m .room .format-ok)) d tfci commands (f-ok .data-ok) (f-ok .tfci-ok) (m .slots)
 
   commands-back : commandsIn (formatOf format) (frameOf (formatOf format) d tfci commands) ≡ commands
-  unfolding commandsIn
-  commands-back =
-      tab-same 15 _ (λ (k : ℕ). getD commands k 0)
-      (λ k h. ap (commandIn (formatOf format)) (at-slot k h) ∙ slot-exact.command-back format k _ _ _ (slot-mapped k h))
-      ∙ sym (tab-is 0 commands 15 (λ (k : ℕ). getD commands k 0) (f-ok .commands-ok) (λ k h. refl))
+  unfolding frameOf commandsIn shape codec
+  commands-back = frames.commands-back (shape format) (codec format (m .room .format-ok)) d tfci commands (f-ok .data-ok) (f-ok .tfci-ok) (m .slots) (f-ok .commands-ok)
 
 given : {format : ℕ} {d tfci commands xs : List ℕ} → Gives format d tfci commands xs → Mapped format d tfci (15 * formatOf format .slot) commands
 given {format} {d} {tfci} {commands} g = mapped format d tfci (15 * formatOf format .slot) commands (number-0 (g .taken))
@@ -169,15 +157,10 @@ pub read-once : ReadOnce
 read-once format xs d tfci commands a b x y s t u v p r =
     (one-outcome (p .verdict-is) (r .verdict-is), one-outcome (p .data-is) (r .data-is), one-outcome (p .tfci-is) (r .tfci-is), one-outcome (p .commands-is) (r .commands-is))
 
--- format and lengths: 1 and 3
-head-narrow : (format : ℕ) (right : List Bool) → length right < 4294967296 → Narrow (head format right)
-unfolding head
-head-narrow format right h = check-narrow _ 1 0 _ (lit< tt) (lit< tt) (lit< tt) (λ _. lengths-narrow right h)
-
 map-narrow : (format : ℕ) (d tfci : List ℕ) (outLength : ℕ) (commands : List ℕ) → Narrow (mapVerdict format d tfci outLength commands)
 unfolding mapVerdict mapHead
 map-narrow format d tfci outLength commands =
-    or-else-narrow _ _ (head-narrow format _ (lit< tt))
+    or-else-narrow _ _ (frame-head-narrow 16 format _ (lit< tt))
     (λ e. chain-narrow 15 _ (λ k h.
     let r = map-headed format (length d) (length tfci) outLength (length commands) e .fields in
     let n = part-length k 15 (dataSize (formatOf format)) d h (r .data-ok) in
@@ -191,7 +174,7 @@ map-narrow format d tfci outLength commands =
 read-narrow : (format : ℕ) (xs : List ℕ) (dataLength tfciLength commandsLength : ℕ) → Narrow (readVerdict format xs dataLength tfciLength commandsLength)
 unfolding readVerdict readHead
 read-narrow format xs dataLength tfciLength commandsLength =
-    or-else-narrow _ _ (head-narrow format _ (lit< tt))
+    or-else-narrow _ _ (frame-head-narrow 16 format _ (lit< tt))
     (λ e. chain-narrow 15 _ (λ k h.
     let room = read-headed format (length xs) dataLength tfciLength commandsLength e in
     let a = part-room k 15 (formatOf format .slot) h in

@@ -2,27 +2,22 @@
 -- Assumes nothing.
 use Prim.Native.Nat.{ℕ, _*_}
 use mathlib.Core.Path.{_≡_}
-use mathlib.Core.Bool.{Bool}
 use mathlib.Core.List.{List, [], _∷_}
 use lib.ListN.{length, getD}
-use lib.Dec.{eqb, leb}
+use lib.Dec.{eqb}
 use Rattle.run.specs.declared.Verdict.{Verdict}
 use Rattle.run.specs.Parts.{part}
-use Rattle.run.specs.Refusals.{formatRefused}
-use Rattle.run.specs.Verdicts.{orElse, unless, lengths, chain, leaves}
+use Rattle.run.specs.Verdicts.{orElse, chain, leaves}
 use Rattle.dpch.specs.Formats.{formatOf}
+use Rattle.dpch.specs.Heads.{frameHead}
 use Rattle.slot.specs.Rule.{dataSize}
 use Rattle.slot.specs.Outcome.{fieldsVerdict, digitsVerdict}
 use Rattle.frame.specs.Rule.{frameOf, dataIn, tfciIn, commandsIn}
 
--- format and lengths: 1, then 3 at the first run whose length is not right
-unfoldable pub head : ℕ → List Bool → Verdict
-head format right = orElse (unless (leb format 16) formatRefused 0) (lengths right)
-
 -- map: 1, 3 (data, TFCI, output, commands) ..
 unfoldable pub mapHead : ℕ → ℕ → ℕ → ℕ → ℕ → Verdict
 mapHead format dataLength tfciLength outLength commandsLength =
-    head format
+    frameHead 16 format
     (eqb dataLength (15 * dataSize (formatOf format))
     ∷ eqb tfciLength (15 * formatOf format .tfci)
     ∷ eqb outLength (15 * formatOf format .slot)
@@ -46,7 +41,7 @@ pub record Map (format : ℕ) (d tfci out commands : List ℕ) (answer : Verdict
 -- read: 1, 3 (frame, data, TFCI, commands) ..
 unfoldable pub readHead : ℕ → ℕ → ℕ → ℕ → ℕ → Verdict
 readHead format frameLength dataLength tfciLength commandsLength =
-    head format
+    frameHead 16 format
     (eqb frameLength (15 * formatOf format .slot)
     ∷ eqb dataLength (15 * dataSize (formatOf format))
     ∷ eqb tfciLength (15 * formatOf format .tfci)

@@ -1,21 +1,9 @@
 // A frame of the downlink DPCH, fifteen slots of one format: its rule, promises and theorems, and the checks of format and lengths: docs/RULES.md, 'DPCH slot'; TS 25.211, 5.3.2.
+use dpch::frame_head;
 use run::Verdict;
-use run::lengths;
-use run::or_else;
-use run::refusal;
-use run::unless;
 use slot::sizes_of;
 ghost use mathlib.Core.Path.{_≡_};
-ghost use mathlib.Core.List.{[], _∷_};
-ghost use Rattle.frame.specs.Outcome.{head, mapHead, readHead};
-
-// The check of the format, then of the lengths of a call's four runs, in the order of the call.
-fn head(format: usize, first: bool, second: bool, third: bool, fourth: bool) -> Verdict
-    ensures { λ r. ⌜ r ≡ head format (first ∷ second ∷ third ∷ fourth ∷ []) ⌝ }
-{
-    let right = lengths(first, second, third, fourth);
-    or_else(unless(format <= 16, refusal::FORMAT, 0), right)
-}
+ghost use Rattle.frame.specs.Outcome.{mapHead, readHead};
 
 // The checks of format and lengths before a frame is mapped.
 pub fn map_head(
@@ -28,7 +16,8 @@ pub fn map_head(
     ensures { λ r. ⌜ r ≡ mapHead format «data_length» «tfci_length» «out_length» «commands_length» ⌝ }
 {
     let s = sizes_of(format);
-    head(
+    frame_head(
+        16,
         format,
         data_length == 15 * s.data,
         tfci_length == 15 * s.tfci,
@@ -48,7 +37,8 @@ pub fn read_head(
     ensures { λ r. ⌜ r ≡ readHead format «frame_length» «data_length» «tfci_length» «commands_length» ⌝ }
 {
     let s = sizes_of(format);
-    head(
+    frame_head(
+        16,
         format,
         frame_length == 15 * s.slot,
         data_length == 15 * s.data,

@@ -9,9 +9,10 @@ use Rattle.run.specs.Table.{tab}
 use Rattle.run.specs.Verdicts.{orElse, unless, each, lengths, leaves}
 use Rattle.whole.specs.Sum.{sum}
 use Rattle.dpch.specs.Formats.{formats, formatOf}
+use Rattle.dpch.specs.Heads.{slotHead}
 use Rattle.dpch.specs.Pilots.{symbols1, symbols3, symbols5, symbols7, symbolsOf, symbolsFor, pilotOf}
 use Rattle.slot.specs.Rule.{fieldsOf, slotOf, tfciStands}
-use Rattle.slot.specs.Outcome.{head as slotHead, mapHead, fieldsVerdict, mapVerdict as slotVerdict}
+use Rattle.slot.specs.Outcome.{mapHead, fieldsVerdict, mapVerdict as slotVerdict}
 use Rattle.sttd.specs.Rule.{sttd, barDigit}
 use Rattle.sttd.specs.Outcome.{digitsVerdict}
 use Rattle.pich.specs.Rule.{isNp, qOf}

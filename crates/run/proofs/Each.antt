@@ -6,7 +6,7 @@ use mathlib.Core.List.{List, [], _∷_, _++_}
 use Prim.Native.Nat.{ℕ, _+_, _-_, _≤_, _<_}
 use native.Mathlib.Nat.{not-suc-le-zero}
 use native.Mathlib.Omega.{arith}
-use borrow.Author.Tests.{ltb-true, ltb-false, eqb-true, eqb-false, not-true}
+use borrow.Author.Tests.{ltb-true, ltb-false, eqb-true, eqb-false, eq-eqb, ne-eqb, not-true}
 use lib.Dec.{ltb, eqb}
 use lib.ListN.{length, getD, take, drop, replicate, length-append, length-take, length-drop, length-replicate, getD-replicate, List·getD-append}
 use lib.Seq.{getD-take, getD-drop, getD-append-add, ext-getD}
@@ -68,3 +68,10 @@ all-first s all =
 -- .. and its first is not DTX
 pub first-no-dtx : (s : List ℕ) → 0 < length s → Every (likeFirst s) (length s) → getD s 0 0 ≡ dtx → ⊥
 first-no-dtx s some all = eqb-false _ _ (not-true _ (and-left _ _ (all 0 some)))
+
+-- a run of one digit that is not DTX is all like its first
+pub same-alike : (n v : ℕ) → (v ≡ dtx → ⊥) → Every (likeFirst (replicate n v)) (length (replicate n v))
+same-alike n v bit k h =
+    let l : k < n = rw length-replicate at h in
+    let some : 0 < n = omega arith in
+    rw (getD-replicate n k v 0 l, getD-replicate n 0 v 0 some, ne-eqb v dtx bit, eq-eqb v v refl)

@@ -3,14 +3,14 @@
 use mathlib.Core.Path.{_≡_, refl, sym, ap, _∙_}
 use mathlib.Core.Bool.{Bool, true, false, cond}
 use mathlib.Core.List.{List}
-use Prim.Native.Nat.{ℕ, zero, suc, _+_, _-_, _≤_, _<_, suc-le-suc}
+use Prim.Native.Nat.{ℕ, zero, suc, _+_, _-_, _≤_, _<_, min, suc-le-suc}
 use native.Mathlib.Nat.{le-of-suc-le-suc, not-suc-le-zero}
 use native.Mathlib.Omega.{arith}
 use borrow.Author.Count.{below-none, below-more}
 use borrow.Author.Tests.{eqb-true, eq-eqb, le-leb, leb-true, leb-false, ltb-true, ltb-false}
-use lib.Dec.{leb, ltb}
-use lib.ListN.{length, getD}
-use lib.Seq.{ext-getD}
+use lib.Dec.{leb, ltb, eqb}
+use lib.ListN.{length, getD, take}
+use lib.Seq.{ext-getD, getD-take}
 use Rattle.run.specs.First.{firstBad, Every, atMost, agree}
 
 cond-le : (b : Bool) (m n : ℕ) → m ≤ n → cond b (suc m) 0 ≤ suc n
@@ -106,6 +106,15 @@ no-diff s t e all = ext-getD 0 s t e (λ k h. eqb-true _ _ (all k h))
 
 pub diff-none : (s t : List ℕ) (n : ℕ) → s ≡ t → Every (agree s t) n
 diff-none s t n e k h = eq-eqb _ _ (ap (λ (l : List ℕ). getD l k 0) e)
+
+-- a run compared with what begins with its pattern
+pub begins-scan : (s source pattern : List ℕ) → pattern ≡ take (length s) source → length s ≤ length source
+    → firstBad (agree s source) (min (length s) (length source)) ≡ firstBad (agree s pattern) (length s)
+begins-scan s source pattern e h =
+    let all : min (length s) (length source) ≡ length s = omega arith in
+    rw all
+    (first-same _ _ (length s)
+    (λ k l. ap (λ (x : ℕ). eqb (getD s k 0) x) (sym (ap (λ (t : List ℕ). getD t k 0) e ∙ getD-take (length s) source k 0 l))))
 
 -- a run scanned part by part: `part` is the test within the w places from a on, before which all pass
 module _ (ok part : ℕ → Bool) (a w : ℕ) (before : Every ok a) (same : (j : ℕ) → j < w → part j ≡ ok (a + j)) where

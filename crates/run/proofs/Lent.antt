@@ -6,7 +6,7 @@ use Prim.Native.Nat.{ℕ, _+_, _-_, _≤_, _<_}
 use native.Mathlib.Omega.{arith}
 use borrow.Rule.Slice.PartMut.{putMid, midOf}
 use lib.ListN.{length, getD, take, drop, take-append-drop, length-drop}
-use lib.Seq.{ext-getD, getD-take, getD-drop, length-take-le, take-add, drop-drop}
+use lib.Seq.{ext-getD, getD-take, getD-drop, length-take-le, take-all, take-add, drop-drop}
 use Rattle.run.specs.Written.{over}
 use Rattle.run.proofs.Front.{Front, front-lent, front-part}
 use Rattle.run.proofs.Over.{over-whole}
@@ -23,6 +23,10 @@ module _ {A : Type 0} where
 
   pub part-at : (s : List A) (a w j : ℕ) (z : A) → j < w → getD (take (a + w - a) (drop a s)) j z ≡ getD s (a + j) z
   part-at s a w j z h = rw (part-width a w) (getD-take w (drop a s) j z h ∙ getD-drop a s j z)
+
+  -- the part from a to the run's end is what is left of it
+  pub rest-of : (a : ℕ) (s : List A) → take (length s - a) (drop a s) ≡ drop a s
+  rest-of a s = take-all (length s - a) (drop a s) (simp length-drop (omega arith))
 
   -- parts that agree at each place are equal
   pub same-part : (z : A) (s t : List A) (a b w : ℕ) → a + w ≤ length s → b + w ≤ length t → ((j : ℕ) → j < w → getD s (a + j) z ≡ getD t (b + j) z)

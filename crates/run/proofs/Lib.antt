@@ -11,3 +11,6 @@ pub mod Table
 pub mod Fields
 pub mod Parts
 pub mod Ranges
+pub mod Stretch
+pub mod Frames
+pub mod Never

@@ -29,6 +29,10 @@ module _ {A : Type 0} where
   tab-same zero f g h = refl
   tab-same (suc n) f g h = ap₂ (λ (x : A) (xs : List A). x ∷ xs) (h 0 (omega arith)) (tab-same n (λ (k : ℕ). f (suc k)) (λ (k : ℕ). g (suc k)) (λ k l. h (suc k) (suc-le-suc l)))
 
+  -- .. and the other way
+  pub by-table : (z : A) (n : ℕ) (f g : ℕ → A) → tab n f ≡ tab n g → (k : ℕ) → k < n → f k ≡ g k
+  by-table z n f g e k h = sym (tab-at n f k z h) ∙ ap (λ (t : List A). getD t k z) e ∙ tab-at n g k z h
+
   -- a list with the rule's entry at each of its n places is the rule's table
   pub tab-is : (d : A) (s : List A) (n : ℕ) (f : ℕ → A) → length s ≡ n → ((k : ℕ) → k < n → getD s k d ≡ f k) → s ≡ tab n f
   tab-is d s n f e h =

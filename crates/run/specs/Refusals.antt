@@ -2,7 +2,7 @@
 -- Assumes nothing.
 use Prim.Native.Nat.{ℕ}
 
--- 1: format above 16
+-- 1: format that the table of the channel lacks
 abbrev pub formatRefused : ℕ
 formatRefused = 1
 
@@ -22,7 +22,7 @@ digitRefused = 4
 abbrev pub tpcRefused : ℕ
 tpcRefused = 5
 
--- 6: TFCI digits mixed, some bits and some DTX
+-- 6: TFCI digits mixed, some bits and some DTX; on the downlink alone
 abbrev pub tfciRefused : ℕ
 tfciRefused = 6
 

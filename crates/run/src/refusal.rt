@@ -1,6 +1,6 @@
 // The numbers of a refusal by name: docs/RULES.md, 'Numbers a call can return'. The same list is specs/Refusals.antt.
 
-// 1: format above 16.
+// 1: format that the table of the channel lacks.
 pub const FORMAT: usize = 1;
 // 2: slot number above 14.
 pub const SLOT: usize = 2;
@@ -10,7 +10,7 @@ pub const LENGTH: usize = 3;
 pub const DIGIT: usize = 4;
 // 5: TPC command not 0 or 1; in reading, TPC digits DTX or unlike.
 pub const TPC: usize = 5;
-// 6: TFCI digits mixed, some bits and some DTX.
+// 6: TFCI digits mixed, some bits and some DTX; on the downlink alone.
 pub const TFCI: usize = 6;
 // 7: pilot differs from the table.
 pub const PILOT: usize = 7;

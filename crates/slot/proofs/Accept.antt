@@ -7,15 +7,16 @@ use Prim.Native.Nat.{ℕ, _≤_}
 use native.Mathlib.Omega.{arith}
 use borrow.Author.Tests.{eqb-true, leb-true, le-leb, eq-eqb}
 use lib.Dec.{eqb, lit<}
-use lib.ListN.{length, getD}
+use lib.ListN.{length}
 use Rattle.run.specs.First.{Every, atMost, likeFirst, agree}
 use Rattle.run.specs.Verdicts.{done}
-use Rattle.run.proofs.Chain.{four-done, or-else-done, unless-done, each-done, or-else-pass, unless-pass, each-pass, AllRight, lengths-done, lengths-pass}
+use Rattle.run.proofs.Chain.{four-done, or-else-done, unless-done, each-done, or-else-pass, unless-pass, each-pass}
 use Rattle.dpch.specs.declared.Format.{Format}
 use Rattle.dpch.specs.Formats.{formatOf}
 use Rattle.dpch.specs.Pilots.{pilotOf}
+use Rattle.dpch.proofs.Heads.{SlotHeaded, slot-headed, slot-head-pass}
 use Rattle.slot.specs.Rule.{dataSize, tpcIn, tfciIn, pilotIn, tfciStands}
-use Rattle.slot.specs.Outcome.{head, mapHead, fieldsVerdict, mapVerdict, readHead, digitsVerdict, readVerdict}
+use Rattle.slot.specs.Outcome.{mapHead, fieldsVerdict, mapVerdict, readHead, digitsVerdict, readVerdict}
 use Rattle.slot.specs.Ready.{Ready}
 use Rattle.slot.proofs.Laws.{sound-format}
 
@@ -25,25 +26,8 @@ pub record Headed (format slot dataLength tfciLength slotLength : ℕ) : Type 0 
   pub slot-ok : slot ≤ 14
   pub ready : Ready (formatOf format) dataLength tfciLength slotLength
 
--- .. in the order of a call
-record Passed (format slot : ℕ) (right : List Bool) : Type 0 where
-  format-ok : format ≤ 16
-  slot-ok : slot ≤ 14
-  right-ok : Every (λ (k : ℕ). getD right k true) (length right)
-
-passed : (format slot : ℕ) (right : List Bool) → head format slot right .number ≡ 0 → Passed format slot right
-unfolding head
-passed format slot right h =
-    let a = or-else-done _ _ h in
-    let b = or-else-done _ _ (a .rest) in
-    record {
-      format-ok = leb-true _ _ (unless-done _ 1 0 (omega arith) (a .first));
-      slot-ok = leb-true _ _ (unless-done _ 2 0 (omega arith) (b .first));
-      right-ok = lengths-done right (b .rest);
-    }
-
 -- whichever of the call's runs each of the three is
-headed : (format slot : ℕ) (right : List Bool) (dataLength tfciLength slotLength : ℕ) → Passed format slot right
+headed : (format slot : ℕ) (right : List Bool) (dataLength tfciLength slotLength : ℕ) → SlotHeaded 16 format right slot
     → eqb dataLength (dataSize (formatOf format)) ≡ true → eqb tfciLength (formatOf format .tfci) ≡ true → eqb slotLength (formatOf format .slot) ≡ true
     → Headed format slot dataLength tfciLength slotLength
 headed format slot right dataLength tfciLength slotLength p d t s =
@@ -57,31 +41,26 @@ pub map-headed : (format slot dataLength tfciLength outLength : ℕ) → mapHead
     → Headed format slot dataLength tfciLength outLength
 unfolding mapHead
 map-headed format slot dataLength tfciLength outLength h =
-    let p = passed format slot _ h in
+    let p = slot-headed 16 format _ slot h in
     headed format slot _ dataLength tfciLength outLength p (p .right-ok 0 (lit< tt)) (p .right-ok 1 (lit< tt)) (p .right-ok 2 (lit< tt))
 
 pub read-headed : (format slot slotLength dataLength tfciLength : ℕ) → readHead format slot slotLength dataLength tfciLength .number ≡ 0
     → Headed format slot dataLength tfciLength slotLength
 unfolding readHead
 read-headed format slot slotLength dataLength tfciLength h =
-    let p = passed format slot _ h in
+    let p = slot-headed 16 format _ slot h in
     headed format slot _ dataLength tfciLength slotLength p (p .right-ok 1 (lit< tt)) (p .right-ok 2 (lit< tt)) (p .right-ok 0 (lit< tt))
 
 -- the other way: numbers and lengths that pass
-head-pass : (format slot : ℕ) (right : List Bool) → format ≤ 16 → slot ≤ 14 → AllRight right → head format slot right ≡ done
-unfolding head
-head-pass format slot right a b r =
-    or-else-pass (unless-pass 1 0 (le-leb _ _ a)) (or-else-pass (unless-pass 2 0 (le-leb _ _ b)) (lengths-pass right r))
-
 pub map-head-pass : (format slot dataLength tfciLength outLength : ℕ) → format ≤ 16 → slot ≤ 14 → dataLength ≡ dataSize (formatOf format) → tfciLength ≡ formatOf format .tfci
     → outLength ≡ formatOf format .slot → mapHead format slot dataLength tfciLength outLength ≡ done
 unfolding mapHead
-map-head-pass format slot dataLength tfciLength outLength a b p q r = head-pass format slot _ a b (eq-eqb _ _ p, (eq-eqb _ _ q, (eq-eqb _ _ r, tt)))
+map-head-pass format slot dataLength tfciLength outLength a b p q r = slot-head-pass 16 format _ slot a b (eq-eqb _ _ p, (eq-eqb _ _ q, (eq-eqb _ _ r, tt)))
 
 pub read-head-pass : (format slot slotLength dataLength tfciLength : ℕ) → format ≤ 16 → slot ≤ 14 → slotLength ≡ formatOf format .slot → dataLength ≡ dataSize (formatOf format)
     → tfciLength ≡ formatOf format .tfci → readHead format slot slotLength dataLength tfciLength ≡ done
 unfolding readHead
-read-head-pass format slot slotLength dataLength tfciLength a b p q r = head-pass format slot _ a b (eq-eqb _ _ p, (eq-eqb _ _ q, (eq-eqb _ _ r, tt)))
+read-head-pass format slot slotLength dataLength tfciLength a b p q r = slot-head-pass 16 format _ slot a b (eq-eqb _ _ p, (eq-eqb _ _ q, (eq-eqb _ _ r, tt)))
 
 -- command, TFCI and data
 pub record FieldsOk (tpc : ℕ) (d tfci : List ℕ) : Type 0 where

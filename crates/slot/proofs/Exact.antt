@@ -1,29 +1,30 @@
 -- The theorems of specs/Exact.antt.
 -- Assumes nothing.
 use mathlib.Core.Path.{_≡_, refl, sym, ap, _∙_, subst}
-use mathlib.Core.Bool.{Bool, true, false}
+use mathlib.Core.Bool.{Bool}
 use mathlib.Core.List.{List, []}
 use Prim.Native.Nat.{ℕ, _+_, _≤_, _<_}
 use native.Mathlib.Nat.{zero-add}
 use native.Mathlib.Omega.{arith}
-use borrow.Author.Tests.{leb-true, eqb-true, eqb-false, le-leb, eq-eqb, ne-eqb}
-use lib.Dec.{leb, eqb, lit<}
-use lib.ListN.{length, getD, take, drop, replicate, take-append-drop, length-replicate, getD-replicate}
+use borrow.Author.Tests.{leb-true, le-leb}
+use lib.Dec.{leb, lit<}
+use lib.ListN.{length, getD, take, drop, replicate, take-append-drop, getD-replicate}
 use lib.Seq.{take-at, drop-at, getD-take, getD-drop}
-use Rattle.run.specs.Digits.{dtx}
 use Rattle.run.specs.First.{Every, atMost, likeFirst}
 use Rattle.run.specs.Fields.{cut, joined, field, start}
 use Rattle.run.specs.Verdicts.{done, leaves, Narrow}
 use Rattle.run.proofs.First.{no-diff, diff-none}
-use Rattle.run.proofs.Each.{each-take, each-drop, each-append, each-same, each-joined, all-first, first-no-dtx}
-use Rattle.run.proofs.Chain.{or-else-pass, or-else-narrow, check-narrow, each-narrow, lengths-narrow, leaves-done, leaves-refused, one-outcome, number-0}
-use Rattle.run.proofs.Fields.{joined-cut, cut-joined, field-at, field-is, field-room}
+use Rattle.run.proofs.Each.{each-take, each-drop, each-append, each-same, each-joined, all-first, first-no-dtx, same-alike}
+use Rattle.run.proofs.Chain.{or-else-pass, or-else-narrow, check-narrow, each-narrow, leaves-small, one-outcome, number-0}
+use Rattle.run.proofs.Fields.{joined-cut, cut-joined, field-room}
+use Rattle.run.proofs.Stretch.{joined-at, each-field}
 use Rattle.dpch.specs.declared.Format.{Format}
 use Rattle.dpch.specs.Formats.{formatOf, widths}
 use Rattle.dpch.specs.Pilots.{pilotOf}
 use Rattle.dpch.proofs.Exact.{format-sizes, format-pilots}
+use Rattle.dpch.proofs.Heads.{slot-head-narrow}
 use Rattle.slot.specs.Rule.{dataSize, fieldsOf, slotOf, tpcIn, tfciIn, pilotIn, dataIn, commandIn}
-use Rattle.slot.specs.Outcome.{head, mapHead, fieldsVerdict, mapVerdict, readHead, digitsVerdict, readVerdict}
+use Rattle.slot.specs.Outcome.{mapHead, fieldsVerdict, mapVerdict, readHead, digitsVerdict, readVerdict}
 use Rattle.slot.specs.Ready.{Sound, Whole}
 use Rattle.slot.specs.Exact.{Gives, Fields, ReadExact, SlotCuts, SlotPlaced, MapOnce, ReadOnce, Packs}
 use Rattle.slot.proofs.Laws.{sound-format, start-data1, start-tpc, start-tfci, start-data2, start-pilot, fields-widths, field-of, slot-length, field-long, data-length, data-small}
@@ -63,10 +64,7 @@ module _ (format slot : ℕ) (xs : List ℕ) (k : DigitsOk (formatOf format) slo
   read-gives = ap joined read-fields ∙ joined-cut (widths (formatOf format)) xs (long ∙ sym (sound-format format .fills))
 
   field-digits : (j : ℕ) → j < 5 → Every (atMost 2 (field j (widths (formatOf format)) xs)) (length (field j (widths (formatOf format)) xs))
-  field-digits j h =
-      let f = formatOf format in
-      subst (λ (s : List ℕ). Every (atMost 2 s) (length s)) (sym (field-is j (widths f) xs h))
-      (each-take digit (getD (widths f) j 0) (drop (start j (widths f)) xs) (each-drop digit (start j (widths f)) xs (k .digits)))
+  field-digits j h = each-field digit j (widths (formatOf format)) xs h (k .digits)
 
   pub command-bit : commandIn (formatOf format) xs ≤ 1
   command-bit =
@@ -139,11 +137,7 @@ module _ (format slot tpc : ℕ) (d tfci : List ℕ) (m : Mapped format slot tpc
       )
 
   all-alike : Every (likeFirst (replicate (formatOf format .tpc) tpc)) (length (replicate (formatOf format .tpc) tpc))
-  all-alike k h =
-      let bit = m .fields .tpc-ok in
-      let l : k < formatOf format .tpc = rw length-replicate at h in
-      let some : 0 < formatOf format .tpc = omega arith in
-      rw (getD-replicate (formatOf format .tpc) k tpc 0 l, getD-replicate (formatOf format .tpc) 0 tpc 0 some, ne-eqb tpc dtx (λ e. omega arith), eq-eqb tpc tpc refl)
+  all-alike = let bit = m .fields .tpc-ok in same-alike (formatOf format .tpc) tpc (λ e. omega arith)
 
   pub mapped-digits-ok : DigitsOk (formatOf format) slot (slotOf (formatOf format) slot tpc d tfci)
   mapped-digits-ok =
@@ -203,7 +197,7 @@ slot-cuts format =
     }
 
 pub slot-placed : SlotPlaced
-unfolding fieldsOf
+unfolding fieldsOf slotOf
 slot-placed format slot tpc d tfci p q =
     record {
       long = slot-length f s slot tpc d tfci p q;
@@ -227,8 +221,7 @@ slot-placed format slot tpc d tfci p q =
     at-field : (k i : ℕ) → k < 5 → i < getD (widths (formatOf format)) k 0
         → getD (slotOf (formatOf format) slot tpc d tfci) (start k (widths (formatOf format)) + i) 0 ≡ getD (getD (fieldsOf (formatOf format) slot tpc d tfci) k []) i 0
     at-field k i h l =
-        sym (field-at k (widths (formatOf format)) (slotOf (formatOf format) slot tpc d tfci) i 0 h l)
-        ∙ ap (λ (g : List ℕ). getD g i 0) (field-of (formatOf format) (sound-format format) slot tpc d tfci p q k)
+        joined-at (widths (formatOf format)) (fieldsOf (formatOf format) slot tpc d tfci) (fields-widths (formatOf format) (sound-format format) slot tpc d tfci p q) k i 0 h l
 
 pub map-once : MapOnce
 map-once format slot tpc d tfci out a b x y p r = (one-outcome (p .verdict-is) (r .verdict-is), one-outcome (p .out-is) (r .out-is))
@@ -278,16 +271,10 @@ digits-narrow format slot xs base long h =
         let s = field-small format k l in
         omega arith
 
--- numbers and lengths: 1, 2 and 3
-head-narrow : (format slot : ℕ) (right : List Bool) → length right < 4294967296 → Narrow (head format slot right)
-unfolding head
-head-narrow format slot right h =
-    check-narrow _ 1 0 _ (lit< tt) (lit< tt) (lit< tt) (λ _. check-narrow _ 2 0 _ (lit< tt) (lit< tt) (lit< tt) (λ _. lengths-narrow right h))
-
 map-narrow : (format slot tpc : ℕ) (d tfci : List ℕ) (outLength : ℕ) → Narrow (mapVerdict format slot tpc d tfci outLength)
 unfolding mapVerdict mapHead
 map-narrow format slot tpc d tfci outLength =
-    or-else-narrow _ _ (head-narrow format slot _ (lit< tt))
+    or-else-narrow _ _ (slot-head-narrow 16 format _ slot (lit< tt))
     (λ e.
     let r = map-headed format slot (length d) (length tfci) outLength e .ready in
     let n = data-small format in
@@ -299,21 +286,18 @@ map-narrow format slot tpc d tfci outLength =
 read-narrow : (format slot : ℕ) (xs : List ℕ) (dataLength tfciLength : ℕ) → Narrow (readVerdict format slot xs dataLength tfciLength)
 unfolding readVerdict readHead
 read-narrow format slot xs dataLength tfciLength =
-    or-else-narrow _ _ (head-narrow format slot _ (lit< tt)) (λ e. digits-narrow format slot xs 0 (read-headed format slot (length xs) dataLength tfciLength e .ready .slot-ok) (omega arith))
+    or-else-narrow _ _ (slot-head-narrow 16 format _ slot (lit< tt)) (λ e. digits-narrow format slot xs 0 (read-headed format slot (length xs) dataLength tfciLength e .ready .slot-ok) (omega arith))
 
 -- the answered command, 0 where refused, fits 16 bits
 pub command-fits : (format slot : ℕ) (xs : List ℕ) (dataLength tfciLength : ℕ)
     → leaves (readVerdict format slot xs dataLength tfciLength) (commandIn (formatOf format) xs) 0 < 65536
-command-fits format slot xs dataLength tfciLength = side (eqb (readVerdict format slot xs dataLength tfciLength .number) 0) refl
-  where
-    side : (b : Bool) → eqb (readVerdict format slot xs dataLength tfciLength .number) 0 ≡ b
-        → leaves (readVerdict format slot xs dataLength tfciLength) (commandIn (formatOf format) xs) 0 < 65536
-    side true e =
-        let z = eqb-true _ _ e in
-        let a = accepted format slot xs dataLength tfciLength z in
-        let bit = command-bit format slot xs (a .digits) (a .head .format-ok) (a .head .slot-ok) (a .head .ready .slot-ok) in
-        rw (leaves-done (readVerdict format slot xs dataLength tfciLength) (commandIn (formatOf format) xs) 0 z) (omega arith)
-    side false e = rw (leaves-refused (readVerdict format slot xs dataLength tfciLength) (commandIn (formatOf format) xs) 0 (eqb-false _ _ e)) (lit< tt)
+command-fits format slot xs dataLength tfciLength =
+    leaves-small _ _ 65536
+    (λ z.
+    let a = accepted format slot xs dataLength tfciLength z in
+    let bit = command-bit format slot xs (a .digits) (a .head .format-ok) (a .head .slot-ok) (a .head .ready .slot-ok) in
+    omega arith)
+    (lit< tt)
 
 pub packs : Packs
 packs =

@@ -17,12 +17,14 @@ use Rattle.run.specs.Fields.{total, field, start}
 use Rattle.run.specs.Written.{over}
 use Rattle.run.proofs.First.{first-same}
 use Rattle.run.proofs.Chain.{or-else-next, unless-pass, number-0}
-use Rattle.run.proofs.Fields.{joined-length, field-is, field-lent, field-joined, field-length, field-at}
-use Rattle.run.proofs.Over.{over-whole}
-use Rattle.run.proofs.Front.{Front, front-none, front-fill, front-copy, front-lent, front-all}
+use Rattle.run.proofs.Fields.{joined-length, field-is, field-joined, field-length, field-at}
+use Rattle.run.proofs.Lent.{part-width}
+use Rattle.run.proofs.Stretch.{field-copied, field-filled, field-taken}
+use Rattle.run.proofs.Front.{Front, front-none, front-copy, front-lent, front-all}
 use Rattle.dpch.specs.declared.Format.{Format}
 use Rattle.dpch.specs.Formats.{formatOf, widths}
 use Rattle.dpch.specs.Pilots.{pilotSource, pilotOf}
+use Rattle.dpch.specs.Layouts.{downlinkDpch}
 use Rattle.dpch.proofs.Exact.{fields-fill, format-sizes, format-pilots}
 use Rattle.slot.specs.Rule.{dataSize, fieldsOf, slotOf, tfciIn, dataIn, commandIn, tfciStands}
 use Rattle.slot.specs.Outcome.{digitsVerdict, partVerdict}
@@ -32,7 +34,7 @@ use Rattle.slot.specs.Ready.{Sound, Whole}
 pub sound-format : (format : ℕ) → Sound (formatOf format)
 sound-format format =
     record {
-      fills = fields-fill format;
+      fills = fields-fill downlinkDpch format;
       short = format-sizes format .short;
       pilot = λ slot. record { cut-from = format-pilots format slot .cut-from; enough = format-pilots format slot .enough };
     }
@@ -83,75 +85,59 @@ module _ (f : Format) (s : Sound f) (slot tpc : ℕ) (d tfci : List ℕ) (data-l
   unfolding slotOf
   slot-length = joined-length (fieldsOf f slot tpc d tfci) ∙ ap total fields-widths ∙ s .fills
 
-  -- the stretch of field k, as it is lent
-  stretch : (k a e : ℕ) → k < 5 → a ≡ start k (widths f) → e ≡ a + getD (widths f) k 0
-      → getD (fieldsOf f slot tpc d tfci) k [] ≡ take (e - a) (drop a (slotOf f slot tpc d tfci))
-  stretch k a e h p q = sym (field-lent k a e (widths f) (slotOf f slot tpc d tfci) h p q ∙ field-of k)
-
   -- the five parts of the slot's run, lent and filled one after the other
   module _ (out : List ℕ) (out-long : length out ≡ f .slot) where
-    pub data1-written : (y : List ℕ) → y ≡ over d (midOf 0 (f .data1 - 0) out)
-        → Front (slotOf f slot tpc d tfci) out (putMid 0 (f .data1 - 0) out y) (f .data1)
-    unfolding fieldsOf
-    data1-written y e =
-        let n = sum f s in
-        let w : f .data1 - 0 ≡ f .data1 = omega arith in
-        front-copy (f .data1) d (front-none (slot-length ∙ sym out-long)) (omega arith) (omega arith) (omega arith) e
-        (ap (λ (k : ℕ). take k d) w ∙ stretch 0 0 (f .data1) (lit< tt) (start-data1 f) (omega arith))
+    room : length out ≡ total (widths f)
+    room = out-long ∙ sym (s .fills)
 
-    pub tpc-written : (x y : List ℕ) → Front (slotOf f slot tpc d tfci) out x (f .data1)
+    data1-written : (y : List ℕ) → y ≡ over d (midOf 0 (f .data1 - 0) out)
+        → Front (slotOf f slot tpc d tfci) out (putMid 0 (f .data1 - 0) out y) (f .data1)
+    unfolding fieldsOf slotOf
+    data1-written y e =
+        field-copied (widths f) (fieldsOf f slot tpc d tfci) fields-widths out room 0 0 (f .data1) (lit< tt) (start-data1 f) (omega arith)
+        d (front-none (slot-length ∙ sym out-long)) (omega arith) e refl
+
+    tpc-written : (x y : List ℕ) → Front (slotOf f slot tpc d tfci) out x (f .data1)
         → y ≡ replicate (length (midOf (f .data1) (f .data1 + f .tpc - f .data1) x)) tpc
         → Front (slotOf f slot tpc d tfci) out (putMid (f .data1) (f .data1 + f .tpc - f .data1) x y) (f .data1 + f .tpc)
-    unfolding fieldsOf
+    unfolding fieldsOf slotOf
     tpc-written x y h e =
-        let n = sum f s in
-        let w : f .data1 + f .tpc - f .data1 ≡ f .tpc = omega arith in
-        front-fill (f .data1 + f .tpc) tpc h (omega arith) (omega arith) e
-        (ap (λ (k : ℕ). replicate k tpc) w ∙ stretch 1 (f .data1) (f .data1 + f .tpc) (lit< tt) (sym (start-tpc f)) refl)
+        field-filled (widths f) (fieldsOf f slot tpc d tfci) fields-widths out room 1 (f .data1) (f .data1 + f .tpc) (lit< tt) (sym (start-tpc f)) refl
+        tpc h e refl
 
-    pub tfci-written : (x y : List ℕ) → Front (slotOf f slot tpc d tfci) out x (f .data1 + f .tpc)
+    tfci-written : (x y : List ℕ) → Front (slotOf f slot tpc d tfci) out x (f .data1 + f .tpc)
         → y ≡ over tfci (midOf (f .data1 + f .tpc) (f .data1 + f .tpc + f .tfci - (f .data1 + f .tpc)) x)
         → Front (slotOf f slot tpc d tfci) out (putMid (f .data1 + f .tpc) (f .data1 + f .tpc + f .tfci - (f .data1 + f .tpc)) x y) (f .data1 + f .tpc + f .tfci)
-    unfolding fieldsOf
+    unfolding fieldsOf slotOf
     tfci-written x y h e =
-        let n = sum f s in
-        front-copy (f .data1 + f .tpc + f .tfci) tfci h (omega arith) (omega arith) (omega arith) e
-        (take-all (f .data1 + f .tpc + f .tfci - (f .data1 + f .tpc)) tfci (omega arith)
-        ∙ stretch 2 (f .data1 + f .tpc) (f .data1 + f .tpc + f .tfci) (lit< tt) (sym (start-tfci f)) refl)
+        field-copied (widths f) (fieldsOf f slot tpc d tfci) fields-widths out room 2 (f .data1 + f .tpc) (f .data1 + f .tpc + f .tfci) (lit< tt) (sym (start-tfci f)) refl
+        tfci h (omega arith) e (take-all (f .tfci) tfci (omega arith))
 
     -- `rest` is the data from Data1's end on
-    pub data2-written : (x y rest : List ℕ) → rest ≡ drop (f .data1) d → Front (slotOf f slot tpc d tfci) out x (f .data1 + f .tpc + f .tfci)
+    data2-written : (x y rest : List ℕ) → rest ≡ drop (f .data1) d → Front (slotOf f slot tpc d tfci) out x (f .data1 + f .tpc + f .tfci)
         → y ≡ over rest (midOf (f .data1 + f .tpc + f .tfci) (f .data1 + f .tpc + f .tfci + f .data2 - (f .data1 + f .tpc + f .tfci)) x)
         → Front (slotOf f slot tpc d tfci) out
         (putMid (f .data1 + f .tpc + f .tfci) (f .data1 + f .tpc + f .tfci + f .data2 - (f .data1 + f .tpc + f .tfci)) x y) (f .data1 + f .tpc + f .tfci + f .data2)
-    unfolding fieldsOf
+    unfolding fieldsOf slotOf
     data2-written x y rest r h e =
-        let n = sum f s in
         let long : length rest ≡ f .data2 = ap length r ∙ length-drop (f .data1) d ∙ omega arith in
-        front-copy (f .data1 + f .tpc + f .tfci + f .data2) rest h (omega arith) (omega arith) (omega arith) e
-        (take-all (f .data1 + f .tpc + f .tfci + f .data2 - (f .data1 + f .tpc + f .tfci)) rest (omega arith)
-        ∙ r
-        ∙ stretch 3 (f .data1 + f .tpc + f .tfci) (f .data1 + f .tpc + f .tfci + f .data2) (lit< tt) (sym (start-data2 f)) refl)
+        field-copied (widths f) (fieldsOf f slot tpc d tfci) fields-widths out room 3 (f .data1 + f .tpc + f .tfci) (f .data1 + f .tpc + f .tfci + f .data2) (lit< tt) (sym (start-data2 f)) refl
+        rest h (omega arith) e (take-all (f .data2) rest (omega arith) ∙ r)
 
-    pub pilot-written : (x y : List ℕ) → Front (slotOf f slot tpc d tfci) out x (f .data1 + f .tpc + f .tfci + f .data2)
+    pilot-written : (x y : List ℕ) → Front (slotOf f slot tpc d tfci) out x (f .data1 + f .tpc + f .tfci + f .data2)
         → y ≡ over (pilotSource (length (midOf (f .data1 + f .tpc + f .tfci + f .data2) (f .data1 + f .tpc + f .tfci + f .data2 + f .pilot - (f .data1 + f .tpc + f .tfci + f .data2)) x)) slot)
         (midOf (f .data1 + f .tpc + f .tfci + f .data2) (f .data1 + f .tpc + f .tfci + f .data2 + f .pilot - (f .data1 + f .tpc + f .tfci + f .data2)) x)
         → putMid (f .data1 + f .tpc + f .tfci + f .data2) (f .data1 + f .tpc + f .tfci + f .data2 + f .pilot - (f .data1 + f .tpc + f .tfci + f .data2)) x y
         ≡ slotOf f slot tpc d tfci
-    unfolding fieldsOf
+    unfolding fieldsOf slotOf
     pilot-written x y h e =
         let n = sum f s in
         let p = s .pilot slot in
-        let start = f .data1 + f .tpc + f .tfci + f .data2 in
-        let w : start + f .pilot - start ≡ f .pilot = omega arith in
-        let lent = front-lent start (start + f .pilot) h (omega arith) ∙ w in
-        let room = p .enough in
+        let at = f .data1 + f .tpc + f .tfci + f .data2 in
+        let lent = front-lent at (at + f .pilot) h (omega arith) ∙ part-width at (f .pilot) in
         front-all
-        (front-copy (start + f .pilot) (pilotSource (f .pilot) slot) h (omega arith) (omega arith) (omega arith)
-        (e ∙ ap (λ (k : ℕ). over (pilotSource k slot) (midOf start (start + f .pilot - start) x)) lent)
-        (ap (λ (k : ℕ). take k (pilotSource (f .pilot) slot)) w
-        ∙ sym (p .cut-from)
-        ∙ stretch 4 start (start + f .pilot) (lit< tt) (sym (start-pilot f)) refl))
+        (field-copied (widths f) (fieldsOf f slot tpc d tfci) fields-widths out room 4 at (at + f .pilot) (lit< tt) (sym (start-pilot f)) refl
+        (pilotSource (f .pilot) slot) h (p .enough) (e ∙ ap (λ (k : ℕ). over (pilotSource k slot) (midOf at (at + f .pilot - at) x)) lent) (sym (p .cut-from)))
         (omega arith)
 
     -- the run after each part
@@ -181,10 +167,6 @@ module _ (f : Format) (s : Sound f) (slot tpc : ℕ) (d tfci : List ℕ) (data-l
     all-written y1 y2 y3 y4 y5 rest r e1 e2 e3 e4 e5 =
         pilot-written (after4 y1 y2 y3 y4) y5
         (data2-written (after3 y1 y2 y3) y4 rest r (tfci-written (after2 y1 y2) y3 (tpc-written (after1 y1) y2 (data1-written y1 e1) e2) e3) e4) e5
-
--- a run's part from a to its end is what is left of it
-pub rest-of : (a : ℕ) (xs : List ℕ) → take (length xs - a) (drop a xs) ≡ drop a xs
-rest-of a xs = take-all (length xs - a) (drop a xs) (simp length-drop (omega arith))
 
 -- the fields of a whole slot have their lengths
 module _ (f : Format) (xs : List ℕ) (w : Whole f (length xs)) where
@@ -232,8 +214,9 @@ module _ (f : Format) (xs : List ℕ) (w : Whole f (length xs)) where
   pub tfci-taken : (out y : List ℕ) → length out ≡ f .tfci → y ≡ over (take (f .data1 + f .tpc + f .tfci - (f .data1 + f .tpc)) (drop (f .data1 + f .tpc) xs)) out
       → y ≡ tfciIn f xs
   tfci-taken out y long e =
-      let lent = field-lent 2 (f .data1 + f .tpc) (f .data1 + f .tpc + f .tfci) (widths f) xs (lit< tt) (sym (start-tfci f)) refl in
-      e ∙ rw lent (over-whole (field 2 (widths f) xs) out (field-long 2 (lit< tt) ∙ sym long))
+      let fills = w .sound .fills in
+      let whole = w .slot-ok in
+      field-taken (widths f) xs 2 (f .data1 + f .tpc) (f .data1 + f .tpc + f .tfci) (lit< tt) (sym (start-tfci f)) refl (omega arith) out y long e
 
 pub data-small : (format : ℕ) → dataSize (formatOf format) ≤ 1280
 data-small format =

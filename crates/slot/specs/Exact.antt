@@ -8,9 +8,9 @@ use lib.ListN.{length, getD}
 use Rattle.run.specs.declared.Verdict.{Verdict}
 use Rattle.run.specs.Fields.{cut, joined}
 use Rattle.run.specs.Verdicts.{done, Narrow}
+use Rattle.dpch.specs.declared.Command.{Command}
 use Rattle.dpch.specs.Formats.{formatOf, widths}
 use Rattle.dpch.specs.Pilots.{pilotOf}
-use Rattle.slot.specs.declared.Command.{Command}
 use Rattle.slot.specs.Rule.{dataSize, fieldsOf, slotOf, tfciIn, dataIn, commandIn}
 use Rattle.slot.specs.Outcome.{mapVerdict, Map, readVerdict, Read}
 

@@ -2,32 +2,25 @@
 -- Assumes nothing.
 use Prim.Native.Nat.{ℕ, _+_}
 use mathlib.Core.Path.{_≡_}
-use mathlib.Core.Bool.{Bool}
 use mathlib.Core.List.{List, [], _∷_}
 use lib.ListN.{length}
 use lib.Dec.{eqb, leb}
 use Rattle.run.specs.declared.Verdict.{Verdict}
 use Rattle.run.specs.First.{atMost, likeFirst, agree}
 use Rattle.run.specs.Fields.{start}
-use Rattle.run.specs.Refusals.{formatRefused, slotRefused, lengthRefused, digitRefused, tpcRefused, tfciRefused, pilotRefused}
-use Rattle.run.specs.Verdicts.{orElse, unless, each, lengths, leaves}
+use Rattle.run.specs.Refusals.{lengthRefused, digitRefused, tpcRefused, tfciRefused, pilotRefused}
+use Rattle.run.specs.Verdicts.{orElse, unless, each, leaves}
 use Rattle.dpch.specs.declared.Format.{Format}
+use Rattle.dpch.specs.declared.Command.{Command}
 use Rattle.dpch.specs.Formats.{formatOf, widths}
+use Rattle.dpch.specs.Heads.{slotHead}
 use Rattle.dpch.specs.Pilots.{pilotOf}
-use Rattle.slot.specs.declared.Command.{Command}
 use Rattle.slot.specs.Rule.{dataSize, slotOf, tpcIn, tfciIn, pilotIn, dataIn, commandIn, tfciStands}
-
--- numbers and lengths: 1, 2, then 3 at the first run whose length is not right
-unfoldable pub head : ℕ → ℕ → List Bool → Verdict
-head format slot right =
-    orElse (unless (leb format 16) formatRefused 0)
-    (orElse (unless (leb slot 14) slotRefused 0)
-    (lengths right))
 
 -- map: 1, 2, 3 (data, TFCI, output) ..
 unfoldable pub mapHead : ℕ → ℕ → ℕ → ℕ → ℕ → Verdict
 mapHead format slot dataLength tfciLength outLength =
-    head format slot
+    slotHead 16 format slot
     (eqb dataLength (dataSize (formatOf format))
     ∷ eqb tfciLength (formatOf format .tfci)
     ∷ eqb outLength (formatOf format .slot)
@@ -57,7 +50,7 @@ pub record Put (format slot tpc : ℕ) (d tfci out : List ℕ) (answer : Verdict
 -- read: 1, 2, 3 (slot, data, TFCI) ..
 unfoldable pub readHead : ℕ → ℕ → ℕ → ℕ → ℕ → Verdict
 readHead format slot slotLength dataLength tfciLength =
-    head format slot
+    slotHead 16 format slot
     (eqb slotLength (formatOf format .slot)
     ∷ eqb dataLength (dataSize (formatOf format))
     ∷ eqb tfciLength (formatOf format .tfci)

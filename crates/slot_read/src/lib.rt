@@ -1,7 +1,7 @@
 // One slot of the downlink DPCH, read: its digits are checked by the crate `slot_check`, and then its fields are taken. Rule, promises and theorems are those of
 // the crate `slot`: docs/RULES.md, 'DPCH slot'; TS 25.211, 5.3.2.
+use dpch::Command;
 use run::Verdict;
-use slot::Command;
 ghost use mathlib.Core.Path.{_≡_};
 ghost use Rattle.slot.specs.Outcome.{readVerdict, Read, Take};
 

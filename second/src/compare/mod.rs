@@ -5,7 +5,9 @@
 pub mod aich;
 pub mod aich_available;
 pub mod combiner;
+pub mod dpcch;
 pub mod dpch;
+pub mod dpdch;
 pub mod frame;
 pub mod pccpch;
 pub mod pich;

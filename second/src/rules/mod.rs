@@ -6,7 +6,9 @@
 
 pub mod aich;
 pub mod combiner;
+pub mod dpcch;
 pub mod dpch;
+pub mod dpdch;
 pub mod frame;
 pub mod job;
 pub mod pccpch;

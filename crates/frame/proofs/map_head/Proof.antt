@@ -9,24 +9,24 @@ use Rattle.frame.proofs.map_head.Tie as tie
 sizes-of-requires : tie.Need-sizes-of-requires
 sizes-of-requires c κs = search needs
 
-mul-head : tie.Need-mul-head
-mul-head c = search needs
+mul-frame-head : tie.Need-mul-frame-head
+mul-frame-head c = search needs
 
-mul-head-2 : tie.Need-mul-head-2
-mul-head-2 c = search needs
+mul-frame-head-2 : tie.Need-mul-frame-head-2
+mul-frame-head-2 c = search needs
 
-mul-head-3 : tie.Need-mul-head-3
-mul-head-3 c = search needs
+mul-frame-head-3 : tie.Need-mul-frame-head-3
+mul-frame-head-3 c = search needs
 
-head-requires : tie.Need-head-requires
-head-requires c κs = search needs
+frame-head-requires : tie.Need-frame-head-requires
+frame-head-requires c κs = search needs
 
 returns : tie.Need-returns
 unfolding mapHead
 returns c =
     let s = c .before .before .before .before .sizes-of .ensures in
-    c .head .ensures ∙ rw (s .data-is, s .tfci-is, s .slot-is)
+    c .frame-head .ensures ∙ rw (s .data-is, s .tfci-is, s .slot-is)
 
 pub map-head-spec : {M : Type 1} → statement M
 map-head-spec =
-    tie.close (tie.spec sizes-of-requires mul-head mul-head-2 mul-head-3 head-requires returns)
+    tie.close (tie.spec sizes-of-requires mul-frame-head mul-frame-head-2 mul-frame-head-3 frame-head-requires returns)

@@ -9,14 +9,14 @@ use Rattle.slot.proofs.map_head.Tie as tie
 sizes-of-requires : tie.Need-sizes-of-requires
 sizes-of-requires c κs = search needs
 
-head-requires : tie.Need-head-requires
-head-requires c κs = search needs
+slot-head-requires : tie.Need-slot-head-requires
+slot-head-requires c κs = search needs
 
 returns : tie.Need-returns
 unfolding mapHead
 returns c =
     let s = c .before .before .before .before .sizes-of .ensures in
-    c .head .ensures ∙ rw (s .data-is, s .tfci-is, s .slot-is)
+    c .slot-head .ensures ∙ rw (s .data-is, s .tfci-is, s .slot-is)
 
 pub map-head-spec : {M : Type 1} → statement M
-map-head-spec = tie.close (tie.spec sizes-of-requires head-requires returns)
+map-head-spec = tie.close (tie.spec sizes-of-requires slot-head-requires returns)

@@ -4,7 +4,8 @@ use mathlib.Core.Path.{_≡_}
 use Prim.Native.Nat.{_+_, _≤_}
 use native.Mathlib.Omega.{arith}
 use denote.Ref.{now}
-use Rattle.slot.proofs.Laws.{sum, rest-of, all-written}
+use Rattle.run.proofs.Lent.{rest-of}
+use Rattle.slot.proofs.Laws.{sum, all-written}
 use borrow.Author.Needs.{needs}
 use Rattle.slot_put.proofs.write.Statement.{statement}
 use Rattle.slot_put.proofs.write.Tie as tie

@@ -17,6 +17,7 @@ mod paging;
 mod runs;
 mod samples;
 mod slots;
+mod uplink;
 
 fn main() {
     let questions_only = match std::env::args().nth(1).as_deref() {
@@ -24,9 +25,9 @@ fn main() {
         Some("--questions") => true,
         Some(other) => panic!("{other} is not --questions"),
     };
-    let channels =
-        [slots::all(), frames::all(), antennas::all(), paging::all(), access::all(), samples::all(), jobs::all()];
-    for case in channels.concat() {
+    let dedicated = [slots::all(), frames::all(), uplink::all()];
+    let others = [antennas::all(), paging::all(), access::all(), samples::all(), jobs::all()];
+    for case in [dedicated.concat(), others.concat()].concat() {
         if questions_only {
             println!("{}", case.question);
         } else {

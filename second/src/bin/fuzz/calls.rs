@@ -1,4 +1,4 @@
-//! A case of each call but those of DPCH.
+//! A case of each call but those of dedicated channels.
 
 use crate::case::Case;
 use crate::draw::Draw;

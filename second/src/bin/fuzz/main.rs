@@ -15,6 +15,7 @@ mod case;
 mod dpch;
 mod draw;
 mod lent;
+mod uplink;
 
 use case::Case;
 use draw::Draw;
@@ -26,7 +27,7 @@ use std::process::ExitCode;
 type Call = (&'static [u16], fn(&mut Draw) -> Case);
 
 /// In the order of `include/slt.h`, which is that of the table in `fuzz/calls.c`.
-const CALLS: [Call; 19] = [
+const CALLS: [Call; 27] = [
     (&[0, 8, 11], calls::pich_q),
     (&[0, 3, 4, 8], calls::pich_map),
     (&[0, 3, 4, 8, 9], calls::pich_read),
@@ -34,6 +35,14 @@ const CALLS: [Call; 19] = [
     (&[0, 1, 2, 3, 4, 5, 6, 7], dpch::slot_read),
     (&[0, 1, 3, 4, 5, 6], dpch::frame_map),
     (&[0, 1, 3, 4, 5, 6, 7], dpch::frame_read),
+    (&[0, 1, 3, 4], uplink::dpdch_slot),
+    (&[0, 1, 3, 4], uplink::dpdch_slot),
+    (&[0, 1, 3, 4], uplink::dpdch_frame),
+    (&[0, 1, 3, 4], uplink::dpdch_frame),
+    (&[0, 1, 2, 3, 4, 5], uplink::dpcch_map),
+    (&[0, 1, 2, 3, 4, 5, 7], uplink::dpcch_read),
+    (&[0, 1, 3, 4, 5], uplink::dpcch_frame_map),
+    (&[0, 1, 3, 4, 5, 7], uplink::dpcch_frame_read),
     (&[0, 3, 4], calls::sttd_digits),
     (&[0, 3, 11], calls::sttd_values),
     (&[0, 3, 4], calls::pccpch_map),
@@ -49,7 +58,7 @@ const CALLS: [Call; 19] = [
 ];
 
 /// As many of each call.
-const CASES: u64 = 19 * 40_000;
+const CASES: u64 = CALLS.len() as u64 * 40_000;
 
 fn main() -> ExitCode {
     let words: Result<Vec<u64>, _> = std::env::args().skip(1).map(|word| word.parse()).collect();

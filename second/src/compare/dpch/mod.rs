@@ -18,12 +18,12 @@ pub const BAD_FORMATS: [usize; 14] = [
     usize::MAX - 16, usize::MAX,
 ];
 
-const BAD_SLOTS: [usize; 13] = [
+pub const BAD_SLOTS: [usize; 13] = [
     15, 16, 30, 255, 256, 256 + 14, 65536, 65536 + 7, 1 << 32, (1 << 32) + 1, (1 << 63) + 2,
     usize::MAX - 14, usize::MAX,
 ];
 
-const BAD_COMMANDS: [usize; 12] = [
+pub const BAD_COMMANDS: [usize; 12] = [
     2, 3, 255, 256, 257, 65536, 65537, 1 << 32, (1 << 32) + 1, 1 << 63, (1 << 63) + 1, usize::MAX,
 ];
 
@@ -139,7 +139,7 @@ impl Read {
 // The inputs.
 
 /// The digits of a number in base `base`, `length` of them.
-fn digits_of(number: usize, base: usize, length: usize) -> Vec<u8> {
+pub fn digits_of(number: usize, base: usize, length: usize) -> Vec<u8> {
     (0..length as u32).map(|place| (number / base.pow(place) % base) as u8).collect()
 }
 

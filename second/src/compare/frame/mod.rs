@@ -147,7 +147,7 @@ fn good_read(random: &mut Random, number: usize) -> Read {
 }
 
 /// Each pair of slots, the lower first.
-fn pairs_of_slots() -> Vec<(usize, usize)> {
+pub fn pairs_of_slots() -> Vec<(usize, usize)> {
     (0..SLOTS).flat_map(|low| (low..SLOTS).map(move |high| (low, high))).collect()
 }
 
@@ -203,7 +203,7 @@ fn silence_in_turn(judge: &mut Judge, number: usize) {
 }
 
 /// The lengths of four runs, of which one is tried at other lengths, and one more may be off by one.
-fn runs_of_other_lengths(right: [Option<usize>; 4]) -> Vec<[Option<usize>; 4]> {
+pub fn runs_of_other_lengths(right: [Option<usize>; 4]) -> Vec<[Option<usize>; 4]> {
     let mut all = Vec::new();
     for first in 0..4 {
         for length in lengths(right[first].unwrap()) {

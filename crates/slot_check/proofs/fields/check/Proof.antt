@@ -7,10 +7,12 @@ use denote.Ref.{now}
 use lib.Dec.{lit<}
 use Rattle.run.specs.First.{likeFirst}
 use Rattle.run.proofs.Chain.{or-else-is, each-is}
+use Rattle.run.proofs.Stretch.{check-field}
+use Rattle.dpch.specs.Formats.{widths}
 use Rattle.slot.specs.Rule.{tfciStands}
 use Rattle.slot.specs.Outcome.{digitsVerdict}
 use Rattle.slot.proofs.Laws.{sum, start-tpc, start-tfci, start-pilot}
-use Rattle.slot_check.proofs.Laws.{check-field, check-pilot}
+use Rattle.slot_check.proofs.Laws.{check-pilot}
 use borrow.Author.Needs.{needs}
 use Rattle.slot_check.proofs.fields.check.Statement.{statement}
 use Rattle.slot_check.proofs.fields.check.Tie as tie
@@ -98,9 +100,9 @@ returns c =
     let xs = now (a .xs) in
     or-else-is (c .or-else3 .ensures) (each-is _ _ _ _ _ _ (c .before .before .first-above .ensures) (c .before .found .ensures))
     (or-else-is (c .before .before .before .or-else2 .ensures)
-    (check-field f xs 1 _ _ (lit< tt) (sym (start-tpc f)) refl _ _ likeFirst _ _ (c .before .before .before .before .before .first-unlike .ensures) (c .before .before .before .before .placed3 .ensures))
+    (check-field (widths f) xs 1 _ _ (lit< tt) (sym (start-tpc f)) refl _ _ likeFirst _ _ (c .before .before .before .before .before .first-unlike .ensures) (c .before .before .before .before .placed3 .ensures))
     (or-else-is (c .before .before .before .before .before .before .before .or-else .ensures)
-    (check-field f xs 2 _ _ (lit< tt) (sym (start-tfci f)) refl _ _ tfciStands _ _ (c .before .before .before .before .before .before .before .before .before .first-mixed .ensures) (c .before .before .before .before .before .before .before .before .placed2 .ensures))
+    (check-field (widths f) xs 2 _ _ (lit< tt) (sym (start-tfci f)) refl _ _ tfciStands _ _ (c .before .before .before .before .before .before .before .before .before .first-mixed .ensures) (c .before .before .before .before .before .before .before .before .placed2 .ensures))
     (check-pilot f xs (c .before .before .before .before .before .before .before .before .before .before .before .before .before .before .before .before .before .before .before .pre) (a .slot) _ _ (sym (start-pilot f)) refl _ _ _ _ (c .before .before .before .before .before .before .before .before .before .before .before .before .pilot-differs .ensures) (c .before .before .before .before .before .before .before .before .before .before .before .placed .ensures))))
 
 pub check-spec : {M : Type 1} → statement M

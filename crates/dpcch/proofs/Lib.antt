@@ -1,0 +1,5 @@
+pub mod Pilots
+pub mod Laws
+pub mod Accept
+pub mod Frames
+pub mod Exact

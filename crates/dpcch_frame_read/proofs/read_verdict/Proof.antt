@@ -1,0 +1,40 @@
+-- `dpcch_frame_read::read_verdict` meets its contract.
+-- Assumes nothing.
+use mathlib.Core.Path.{sym, _∙_}
+use Rattle.run.proofs.Chain.{or-else-refused, or-else-next}
+use Rattle.dpcch.specs.Outcome.{frameReadVerdict}
+use Rattle.dpcch.proofs.Accept.{frame-read-headed}
+use borrow.Author.Needs.{needs}
+use Rattle.dpcch_frame_read.proofs.read_verdict.Statement.{statement}
+use Rattle.dpcch_frame_read.proofs.read_verdict.Tie as tie
+
+read-head-requires : tie.Need-read-head-requires
+read-head-requires c κs = search needs
+
+returns : tie.Need-returns
+unfolding frameReadVerdict
+returns c =
+    let e = c .before .before .read-head .ensures in
+    e ∙ sym (or-else-refused _ _ (rw e at (c .if1 .taken)))
+
+all-fit-requires : tie.Need-all-fit-requires
+all-fit-requires c κs = frame-read-headed _ _ _ _ _ (rw (c .before .before .read-head .ensures) at (c .if1 .left)) .frame-ok
+
+returns-2 : tie.Need-returns-2
+unfolding frameReadVerdict
+returns-2 c =
+    let e = c .before .before .before .before .read-head .ensures in
+    sym (or-else-next _ _ (rw e at (c .before .before .if1 .left)) ∙ c .before .all-fit .ensures (c .if2 .taken))
+
+check-digits-requires : tie.Need-check-digits-requires
+check-digits-requires c κs = frame-read-headed _ _ _ _ _ (rw (c .before .before .before .before .read-head .ensures) at (c .before .before .if1 .left)) .frame-ok
+
+returns-3 : tie.Need-returns-3
+unfolding frameReadVerdict
+returns-3 c =
+    let e = c .before .before .before .before .before .read-head .ensures in
+    c .check-digits .ensures ∙ sym (or-else-next _ _ (rw e at (c .before .before .before .if1 .left)))
+
+pub read-verdict-spec : {M : Type 1} → statement M
+read-verdict-spec =
+    tie.close (tie.spec read-head-requires returns all-fit-requires returns-2 check-digits-requires returns-3)

@@ -1,0 +1,21 @@
+-- `dpdch::frame_map` meets its contract.
+-- Assumes nothing.
+use Rattle.dpdch.specs.Rule.{frameOf}
+use Rattle.dpdch.proofs.Laws.{frame-plain, carried}
+use borrow.Author.Needs.{needs}
+use Rattle.dpdch.proofs.frame_map.Statement.{statement}
+use Rattle.dpdch.proofs.frame_map.Tie as tie
+
+carry-requires : tie.Need-carry-requires
+carry-requires c κs = search needs
+
+same-length : tie.Need-same-length
+same-length c = search needs
+
+returns : tie.Need-returns
+returns c =
+    let e = c .before .before .carry .ensures in
+    record { verdict-is = e .verdict-is; out-is = carried (frameOf _) (λ h. frame-plain _ _ h) e }
+
+pub frame-map-spec : {M : Type 1} → statement M
+frame-map-spec = tie.close (tie.spec carry-requires same-length returns)
