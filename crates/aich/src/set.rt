@@ -32,15 +32,17 @@ fn stray(available: u32, s: usize, indicator: i32) -> i32
 }
 
 // Whether every signature may have its indicator. Those that may not are laid over each other bit by bit, which leaves 0 only where each is 0: so the loop goes four signatures at a time, where
-// a branch for each bit of the set would go one by one.
+// a branch for each bit of the set would go one by one. There are sixteen indicators, so that `set` is the set: added so, the compiler does not see that it came from 16 bits, of which it
+// would ask the highest by its sign, apart from the others.
 pub(crate) fn none_stray(available: u32, indicators: &[i32]) -> bool
     requires { ⌜ length (now indicators) ≡ 16 ⌝ }
     ensures { λ r. ⌜ r ≡ all 16 (allows available (now (indicators .entry))) ⌝ }
 {
+    let set = available + (indicators.len() - 16) as u32;
     let mut strays = 0i32;
     let mut s = 0;
     while s < 16 {
-        strays = strays | stray(available, s, indicators[s]);
+        strays = strays | stray(set, s, indicators[s]);
         s += 1;
     }
     strays == 0
