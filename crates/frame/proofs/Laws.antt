@@ -12,7 +12,7 @@ use Rattle.run.specs.Parts.{part}
 use Rattle.run.specs.Verdicts.{leaves}
 use Rattle.run.proofs.Chain.{leaves-done, number-0}
 use Rattle.run.proofs.Frames as frames
-use Rattle.run.proofs.Frames.{Shape, lent-part, lent-length, sized}
+use Rattle.run.proofs.Frames.{Shape, all-slots, lent-part, lent-length, sized}
 use Rattle.run.proofs.Front.{Front}
 use Rattle.run.proofs.Parts.{part-length, part-lent}
 use Rattle.dpch.specs.Formats.{formatOf}
@@ -69,11 +69,11 @@ shape format =
 module _ (format : ℕ) (d tfci commands : List ℕ) (data-ok : length d ≡ 15 * dataSize (formatOf format)) (tfci-ok : length tfci ≡ 15 * formatOf format .tfci) where
   pub frame-length : length (frameOf (formatOf format) d tfci commands) ≡ 15 * formatOf format .slot
   unfolding frameOf shape
-  frame-length = frames.frame-length (shape format) d tfci commands data-ok tfci-ok
+  frame-length = frames.frame-length (shape format) all-slots d tfci commands data-ok tfci-ok
 
   pub frame-slot : (k : ℕ) → k < 15 → part k (formatOf format .slot) (frameOf (formatOf format) d tfci commands) ≡ slotAt (formatOf format) d tfci commands k
   unfolding frameOf shape
-  frame-slot = frames.frame-slot (shape format) d tfci commands data-ok tfci-ok
+  frame-slot = frames.frame-slot (shape format) all-slots d tfci commands data-ok tfci-ok
 
 -- slot k is lent and comes back written
 pub slot-written : (format : ℕ) (d tfci commands out x y : List ℕ) (k n m w : ℕ)
@@ -88,28 +88,28 @@ unfolding frameOf shape
 slot-written format d tfci commands out x y k n m w room h p q r f e =
     let f-ok = room .fields in
     let head =
-    map-head-pass format k _ _ _ (room .format-ok) (omega arith) (lent-length k n d h (sized p (f-ok .data-ok)) ∙ p) (lent-length k m tfci h (sized q (f-ok .tfci-ok)) ∙ q)
-    (lent-part k w h (sized r (room .frame-ok)) f ∙ r)
+    map-head-pass format k _ _ _ (room .format-ok) (omega arith) (lent-length k n d h (sized 15 p (f-ok .data-ok)) ∙ p) (lent-length k m tfci h (sized 15 q (f-ok .tfci-ok)) ∙ q)
+    (lent-part k w h (sized 15 r (room .frame-ok)) f ∙ r)
     in
-    frames.slot-written (shape format) d tfci commands out x y k n m w (f-ok .data-ok) (f-ok .tfci-ok) (room .frame-ok) h p q r f (e ∙ leaves-done _ _ _ (number-0 head))
+    frames.slot-written (shape format) all-slots d tfci commands out x y k w (f-ok .data-ok) (f-ok .tfci-ok) (room .frame-ok) h r f k n m p q refl refl (e ∙ leaves-done _ _ _ (number-0 head))
 
 -- the fields of a frame, slot by slot
 module _ (format : ℕ) (xs : List ℕ) (long : length xs ≡ 15 * formatOf format .slot) where
   pub data-in-length : length (dataIn (formatOf format) xs) ≡ 15 * dataSize (formatOf format)
   unfolding dataIn shape
-  data-in-length = frames.firsts-length (shape format) xs long
+  data-in-length = frames.firsts-length (shape format) all-slots xs long
 
   pub tfci-in-length : length (tfciIn (formatOf format) xs) ≡ 15 * formatOf format .tfci
   unfolding tfciIn shape
-  tfci-in-length = frames.seconds-length (shape format) xs long
+  tfci-in-length = frames.seconds-length (shape format) all-slots xs long
 
   pub commands-in-length : length (commandsIn (formatOf format) xs) ≡ 15
   unfolding commandsIn shape
-  commands-in-length = frames.commands-length (shape format) xs long
+  commands-in-length = frames.commands-length (shape format) all-slots xs long
 
   pub command-of : (k : ℕ) → k < 15 → getD (commandsIn (formatOf format) xs) k 0 ≡ commandIn (formatOf format) (part k (formatOf format .slot) xs)
   unfolding commandsIn shape
-  command-of = frames.command-of (shape format) xs long
+  command-of = frames.command-of (shape format) all-slots xs long
 
 -- slot k is lent, and its fields come back
 module _ (format : ℕ) (xs d t c x u : List ℕ) (k n m w : ℕ) (room : Room format (length d) (length t) (length c) (length xs)) (h : k < 15)
@@ -129,11 +129,11 @@ module _ (format : ℕ) (xs d t c x u : List ℕ) (k n m w : ℕ) (room : Room f
       let long = room .frame-ok in
       let head =
       number-0
-      (read-head-pass format k _ _ _ (room .format-ok) (omega arith) (lent-length k w xs h (sized r long) ∙ r) (lent-part k n h (sized p (room .fields .data-ok)) f ∙ p)
-      (lent-part k m h (sized q (room .fields .tfci-ok)) g ∙ q))
+      (read-head-pass format k _ _ _ (room .format-ok) (omega arith) (lent-length k w xs h (sized 15 r long) ∙ r) (lent-part k n h (sized 15 p (room .fields .data-ok)) f ∙ p)
+      (lent-part k m h (sized 15 q (room .fields .tfci-ok)) g ∙ q))
       in
       record {
-        data-back = frames.first-taken (shape format) xs long k w h r d x y n (room .fields .data-ok) p f (e .data-is ∙ leaves-done _ _ _ head);
-        tfci-back = frames.second-taken (shape format) xs long k w h r t u v m (room .fields .tfci-ok) q g (e .tfci-is ∙ leaves-done _ _ _ head);
-        command-back = frames.command-taken (shape format) xs long k w h r _ (e .command-is ∙ leaves-done _ _ _ head);
+        data-back = frames.first-taken (shape format) all-slots xs long k k w h refl r d x y n (room .fields .data-ok) p f (e .data-is ∙ leaves-done _ _ _ head);
+        tfci-back = frames.second-taken (shape format) all-slots xs long k k w h refl r t u v m (room .fields .tfci-ok) q g (e .tfci-is ∙ leaves-done _ _ _ head);
+        command-back = frames.command-taken (shape format) all-slots xs long k k w h refl r _ (e .command-is ∙ leaves-done _ _ _ head);
       }

@@ -4,17 +4,17 @@ use Prim.Native.Nat.{ℕ, _+_}
 use mathlib.Core.Path.{_≡_}
 use mathlib.Core.List.{List, [], _∷_}
 use lib.ListN.{length}
-use lib.Dec.{eqb, leb}
+use lib.Dec.{eqb, leb, ltb}
 use Rattle.run.specs.declared.Verdict.{Verdict}
 use Rattle.run.specs.First.{atMost, likeFirst, agree}
 use Rattle.run.specs.Fields.{start}
-use Rattle.run.specs.Refusals.{lengthRefused, digitRefused, tpcRefused, tfciRefused, pilotRefused}
-use Rattle.run.specs.Verdicts.{orElse, unless, each, leaves}
+use Rattle.run.specs.Refusals.{formatRefused, lengthRefused, digitRefused, tpcRefused, tfciRefused, pilotRefused}
+use Rattle.run.specs.Verdicts.{orElse, unless, each, lengths, leaves}
 use Rattle.dpch.specs.declared.Format.{Format}
 use Rattle.dpch.specs.declared.Command.{Command}
 use Rattle.dpch.specs.Formats.{formatOf, widths}
 use Rattle.dpch.specs.Heads.{slotHead}
-use Rattle.dpch.specs.Pilots.{pilotOf}
+use Rattle.dpch.specs.Compressed.{pilotFor}
 use Rattle.slot.specs.Rule.{dataSize, slotOf, tpcIn, tfciIn, pilotIn, dataIn, commandIn, tfciStands}
 
 -- map: 1, 2, 3 (data, TFCI, output) ..
@@ -62,7 +62,7 @@ digitsVerdict f slot xs base =
     orElse (each base digitRefused (atMost 2 xs) (length xs))
     (orElse (each (base + start 1 (widths f)) tpcRefused (likeFirst (tpcIn f xs)) (length (tpcIn f xs)))
     (orElse (each (base + start 2 (widths f)) tfciRefused (tfciStands (tfciIn f xs)) (length (tfciIn f xs)))
-    (each (base + start 4 (widths f)) pilotRefused (agree (pilotIn f xs) (pilotOf (f .pilot) slot)) (length (pilotIn f xs)))))
+    (each (base + start 4 (widths f)) pilotRefused (agree (pilotIn f xs) (pilotFor (f .kind) (f .pilot) slot)) (length (pilotIn f xs)))))
 
 unfoldable pub readVerdict : ℕ → ℕ → List ℕ → ℕ → ℕ → Verdict
 readVerdict format slot xs dataLength tfciLength =
@@ -74,10 +74,9 @@ pub record Read (format slot : ℕ) (xs d tfci : List ℕ) (answer : Command) (d
   pub data-is : d-after ≡ leaves (readVerdict format slot xs (length d) (length tfci)) (dataIn (formatOf format) xs) d
   pub tfci-is : tfci-after ≡ leaves (readVerdict format slot xs (length d) (length tfci)) (tfciIn (formatOf format) xs) tfci
 
--- the part that checks a slot's digits, with places counted from base: a run that is no slot of the format is refused as such
-unfoldable pub partVerdict : ℕ → ℕ → List ℕ → ℕ → Verdict
-partVerdict format slot xs base =
-    orElse (unless (eqb (length xs) (formatOf format .slot)) lengthRefused 0) (digitsVerdict (formatOf format) slot xs base)
+-- the part that checks a slot's digits, with places counted from base: a run that is no slot of the row is refused as such
+unfoldable pub partVerdict : Format → ℕ → List ℕ → ℕ → Verdict
+partVerdict f slot xs base = orElse (unless (eqb (length xs) (f .slot)) lengthRefused 0) (digitsVerdict f slot xs base)
 
 -- the part that takes the fields out of a slot with no look at their digits
 pub record Take (format slot : ℕ) (xs d tfci : List ℕ) (answer : Command) (d-after tfci-after : List ℕ) : Type 0 where
@@ -85,3 +84,23 @@ pub record Take (format slot : ℕ) (xs d tfci : List ℕ) (answer : Command) (d
   pub command-is : answer .tpc ≡ leaves (readHead format slot (length xs) (length d) (length tfci)) (commandIn (formatOf format) xs) 0
   pub data-is : d-after ≡ leaves (readHead format slot (length xs) (length d) (length tfci)) (dataIn (formatOf format) xs) d
   pub tfci-is : tfci-after ≡ leaves (readHead format slot (length xs) (length d) (length tfci)) (tfciIn (formatOf format) xs) tfci
+
+-- ---- the parts for a row of a compressed format, which take no slot number's refusal: 1 where the table has no such row, 3 (data, TFCI, slot)
+unfoldable pub rowHead : Format → ℕ → ℕ → ℕ → Verdict
+rowHead f dataLength tfciLength slotLength =
+    orElse (unless (ltb 0 (f .kind)) formatRefused 0)
+    (lengths
+    (eqb dataLength (dataSize f)
+    ∷ eqb tfciLength (f .tfci)
+    ∷ eqb slotLength (f .slot)
+    ∷ []))
+
+pub record PutRow (f : Format) (slot tpc : ℕ) (d tfci out : List ℕ) (answer : Verdict) (out-after : List ℕ) : Type 0 where
+  pub verdict-is : answer ≡ rowHead f (length d) (length tfci) (length out)
+  pub out-is : out-after ≡ leaves (rowHead f (length d) (length tfci) (length out)) (slotOf f slot tpc d tfci) out
+
+pub record TakeRow (f : Format) (xs d tfci : List ℕ) (answer : Command) (d-after tfci-after : List ℕ) : Type 0 where
+  pub verdict-is : answer .verdict ≡ rowHead f (length d) (length tfci) (length xs)
+  pub command-is : answer .tpc ≡ leaves (rowHead f (length d) (length tfci) (length xs)) (commandIn f xs) 0
+  pub data-is : d-after ≡ leaves (rowHead f (length d) (length tfci) (length xs)) (dataIn f xs) d
+  pub tfci-is : tfci-after ≡ leaves (rowHead f (length d) (length tfci) (length xs)) (tfciIn f xs) tfci

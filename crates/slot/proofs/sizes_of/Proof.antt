@@ -11,10 +11,10 @@ format-of-requires : tie.Need-format-of-requires
 format-of-requires c κs = search needs
 
 add-t3 : tie.Need-add-t3
-add-t3 c = rw (c .before .format-of .ensures) (let h = data-small (c .before .before .args .format) in omega arith)
+add-t3 c = rw (c .before .format-of .ensures) (let h = data-small _ (sound-format (c .before .before .args .format)) in omega arith)
 
 returns : tie.Need-returns
-returns c = rw (c .before .format-of .ensures) (record { data-is = refl; tfci-is = refl; slot-is = refl; data-short = data-small _; tfci-short = tfci-small _; slot-short = sound-format _ .short })
+returns c = rw (c .before .format-of .ensures) (record { data-is = refl; tfci-is = refl; slot-is = refl; data-short = data-small _ (sound-format _); tfci-short = tfci-small _ (sound-format _); slot-short = sound-format _ .short })
 
 pub sizes-of-spec : {M : Type 1} → statement M
 sizes-of-spec = tie.close (tie.spec format-of-requires add-t3 returns)
