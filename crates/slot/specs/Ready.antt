@@ -5,7 +5,7 @@ use mathlib.Core.Path.{_≡_}
 use lib.ListN.{length, getD, take}
 use Rattle.run.specs.Fields.{total}
 use Rattle.dpch.specs.declared.Format.{Format}
-use Rattle.dpch.specs.Formats.{formatOf, widths}
+use Rattle.dpch.specs.Formats.{widths}
 use Rattle.dpch.specs.Compressed.{pilotFor, sourceFor}
 use Rattle.slot.specs.declared.Sizes.{Sizes}
 use Rattle.slot.specs.Rule.{dataSize}
@@ -40,10 +40,10 @@ pub record Ready (f : Format) (dataLength tfciLength slotLength : ℕ) : Type 0 
   pub slot-ok : slotLength ≡ f .slot
 
 -- the lengths of one slot's runs
-pub record SizesOf (format : ℕ) (s : Sizes) : Type 0 where
-  pub data-is : s .«data» ≡ dataSize (formatOf format)
-  pub tfci-is : s .tfci ≡ formatOf format .tfci
-  pub slot-is : s .slot ≡ formatOf format .slot
+pub record SizesOf (f : Format) (s : Sizes) : Type 0 where
+  pub data-is : s .«data» ≡ dataSize f
+  pub tfci-is : s .tfci ≡ f .tfci
+  pub slot-is : s .slot ≡ f .slot
   pub data-short : s .«data» ≤ 1280
   pub tfci-short : s .tfci ≤ 1280
   pub slot-short : s .slot ≤ 1280

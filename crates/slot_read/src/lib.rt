@@ -3,7 +3,8 @@
 use dpch::Command;
 use run::Verdict;
 ghost use mathlib.Core.Path.{_≡_};
-ghost use Rattle.slot.specs.Outcome.{readVerdict, Read, Take};
+ghost use Rattle.dpch.specs.Compressed.{formatIn};
+ghost use Rattle.slot.specs.Outcome.{readVerdict, Read, Take, TakeRow};
 
 mod fields;
 
@@ -35,6 +36,31 @@ pub fn take(format: usize, slot: usize, xs: &[u8], data: &mut [u8], tfci: &mut [
         };
     }
     let f = dpch::format_of(format);
+    fields::take(f, xs, data, tfci);
+    Command {
+        verdict: head,
+        tpc: fields::command(f, xs),
+    }
+}
+
+// .. of a slot of a compressed format's row.
+pub fn take_row(
+    kind: usize,
+    format: usize,
+    xs: &[u8],
+    data: &mut [u8],
+    tfci: &mut [u8],
+) -> Command
+    ensures { λ r. ⌜ TakeRow (formatIn kind format) (now (xs .entry)) (now («data» .entry)) (now (tfci .entry)) r (now («data» .exit)) (now (tfci .exit)) ⌝ }
+{
+    let head = slot::row_head(kind, format, data.len(), tfci.len(), xs.len());
+    if head.number != 0 {
+        return Command {
+            verdict: head,
+            tpc: 0,
+        };
+    }
+    let f = dpch_rows::format_in(kind, format);
     fields::take(f, xs, data, tfci);
     Command {
         verdict: head,
