@@ -172,7 +172,7 @@ module _ (s : Shape) (p : Plan) where
   -- ---- slot k is lent from the runs, which have n, m and w entries a slot, and comes back written: it is the i-th transmitted one
   module _ (a b cs out x y : List ℕ) (k w : ℕ) (a-ok : length a ≡ p .count * s .first-size) (b-ok : length b ≡ p .count * s .second-size)
       (out-ok : length out ≡ 15 * s .slot-size) (h : k < 15) (r : w ≡ s .slot-size) (f : Front (frameOf a b cs) out x (k * w)) where
-    as-slot : y ≡ slotAt a b cs k → Front (frameOf a b cs) out (putMid (k * w) (k * w + w - k * w) x y) ((k + 1) * w)
+    pub as-slot : y ≡ slotAt a b cs k → Front (frameOf a b cs) out (putMid (k * w) (k * w + w - k * w) x y) ((k + 1) * w)
     as-slot e = one-part k w h (sized 15 r out-ok) f (e ∙ sym (frame-slot a b cs a-ok b-ok k h) ∙ ap (λ (j : ℕ). part k j (frameOf a b cs)) (sym r))
 
     pub slot-written : (i n m : ℕ) → n ≡ s .first-size → m ≡ s .second-size → p .sent k ≡ true → i ≡ p .turn k

@@ -9,13 +9,14 @@ use borrow.Author.Needs.{needs}
 use denote.Ref.{now}
 use Rattle.run.proofs.Chain.{chain-end, chain-hit}
 use Rattle.run.proofs.Parts.{part-room}
+use Rattle.dpch.specs.Formats.{formatOf}
 use Rattle.frame.specs.Outcome.{slotFields}
 use Rattle.frame.proofs.Laws.{fields-at}
 use Rattle.frame_map.proofs.slots.check_fields.Statement.{statement}
 use Rattle.frame_map.proofs.slots.check_fields.Tie as tie
 
 abbrev Inv-loop : tie.InvT-loop
-Inv-loop format «data» tfci commands n m k₀ k = (k ≤ 15) × ((j : ℕ) → j < k → slotFields format «data» tfci commands j .number ≡ 0)
+Inv-loop format «data» tfci commands n m k₀ k = (k ≤ 15) × ((j : ℕ) → j < k → slotFields (formatOf format) «data» tfci commands j .number ≡ 0)
 
 abbrev μ-loop : tie.MeasureT-loop
 μ-loop format «data» tfci commands n m k₀ k = 15 - k
