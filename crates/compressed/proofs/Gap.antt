@@ -123,7 +123,7 @@ plan first missing ends =
     }
 
 -- so many slots of a size are no more than a frame's longest run
-pub small-product : {n size : ℕ} → n ≤ 15 → size ≤ 1280 → n * size ≤ 19200
-small-product {n} {size} h k =
+pub small-product : (n size : ℕ) → n ≤ 15 → size ≤ 1280 → n * size ≤ 19200
+small-product n size h k =
     let r = mul-le-mul-right size h in
     omega arith

@@ -19,13 +19,13 @@ mul-gap-head : tie.Need-mul-gap-head
 mul-gap-head c =
     let s = c .before .before .row-sizes .ensures in
     let t : c .before .transmitted .result ≤ 15 = let e = c .before .transmitted .ensures in omega arith in
-    omega (arith, small-product t (s .data-short))
+    omega (arith, small-product _ _ t (s .data-short))
 
 mul-gap-head-2 : tie.Need-mul-gap-head-2
 mul-gap-head-2 c =
     let s = c .before .before .before .row-sizes .ensures in
     let t : c .before .before .transmitted .result ≤ 15 = let e = c .before .before .transmitted .ensures in omega arith in
-    omega (arith, small-product t (s .tfci-short))
+    omega (arith, small-product _ _ t (s .tfci-short))
 
 mul-gap-head-3 : tie.Need-mul-gap-head-3
 mul-gap-head-3 c = search needs

@@ -22,13 +22,13 @@ mul-gap-head-2 : tie.Need-mul-gap-head-2
 mul-gap-head-2 c =
     let s = c .before .before .before .row-sizes .ensures in
     let t : c .before .before .transmitted .result ≤ 15 = let e = c .before .before .transmitted .ensures in omega arith in
-    omega (arith, small-product t (s .data-short))
+    omega (arith, small-product _ _ t (s .data-short))
 
 mul-gap-head-3 : tie.Need-mul-gap-head-3
 mul-gap-head-3 c =
     let s = c .before .before .before .before .row-sizes .ensures in
     let t : c .before .before .before .transmitted .result ≤ 15 = let e = c .before .before .before .transmitted .ensures in omega arith in
-    omega (arith, small-product t (s .tfci-short))
+    omega (arith, small-product _ _ t (s .tfci-short))
 
 gap-head-requires : tie.Need-gap-head-requires
 gap-head-requires c κs = search needs
