@@ -29,13 +29,16 @@ module _ (first missing : ℕ) where
   unfolding numberOf
   number-behind i h = rw (le-ltb i first h)
 
-  turn-before : (k : ℕ) → k < first → turnOf first missing k ≡ k
+  pub turn-before : (k : ℕ) → k < first → turnOf first missing k ≡ k
   unfolding turnOf
   turn-before k h = rw (lt-ltb k first h)
 
-  turn-behind : (k : ℕ) → first ≤ k → turnOf first missing k ≡ k - missing
+  pub turn-behind : (k : ℕ) → first ≤ k → turnOf first missing k ≡ k - missing
   unfolding turnOf
   turn-behind k h = rw (le-ltb k first h)
+
+  pub turn-none : (k : ℕ) → first ≤ k → k < missing → 0 ≡ turnOf first missing k
+  turn-none k h l = let e = turn-behind k h in omega arith
 
   pub sent-before : (k : ℕ) → k < first → isMissing first missing k ≡ false
   unfolding isMissing

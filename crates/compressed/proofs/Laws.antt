@@ -1,7 +1,7 @@
 -- The slots of a compressed frame: checked, written and taken one after the other.
 -- Assumes nothing.
 use mathlib.Core.Path.{_≡_, refl, sym, ap, _∙_}
-use mathlib.Core.Bool.{true, false}
+use mathlib.Core.Bool.{Bool, true, false, cond}
 use mathlib.Core.List.{List}
 use Prim.Native.Nat.{ℕ, _+_, _-_, _*_, _≤_, _<_}
 use native.Mathlib.Omega.{arith}
@@ -15,7 +15,7 @@ use Rattle.run.proofs.Chain.{leaves-done, number-0}
 use Rattle.run.proofs.Frames as frames
 use Rattle.run.proofs.Frames.{lent-is, lent-part, lent-length, sized}
 use Rattle.run.proofs.Front.{Front}
-use Rattle.run.proofs.Parts.{part-length}
+use Rattle.run.proofs.Parts.{part-room}
 use Rattle.dpch.specs.declared.Command.{Command}
 use Rattle.dpch.specs.declared.Format.{Format}
 use Rattle.slot.specs.Rule.{dataSize, slotOf, commandIn}
@@ -27,17 +27,27 @@ use Rattle.frame.proofs.Laws.{digits-at}
 use Rattle.compressed.specs.Rule.{isMissing, transmitted, numberOf, turnOf, slotAt, frameOf, dataIn, tfciIn, commandsIn}
 use Rattle.compressed.specs.Outcome.{silentVerdict, slotVerdict}
 use Rattle.compressed.specs.Ready.{Room}
-use Rattle.compressed.proofs.Gap.{one-to-one, plan}
+use Rattle.compressed.proofs.Gap.{one-to-one, plan, small-product}
 use Rattle.compressed.proofs.Accept.{verdict-missing, verdict-sent}
 
 -- slot k as it is lent: the checks of its digits where it is missing, and where it is not
 module _ (f : Format) (first missing : ℕ) (xs : List ℕ) (k w : ℕ) (r : Verdict) (p : w ≡ f .slot) where
-  pub missing-at : isMissing first missing k ≡ true → r ≡ silentVerdict (take (k * w + w - k * w) (drop (k * w) xs)) (k * w) → r ≡ slotVerdict f first missing xs k
+  missing-at : isMissing first missing k ≡ true → r ≡ silentVerdict (take (k * w + w - k * w) (drop (k * w) xs)) (k * w) → r ≡ slotVerdict f first missing xs k
   missing-at e h = h ∙ rw (lent-is k w xs) (rw p (sym (verdict-missing f first missing xs k e)))
 
-  pub sent-at : isMissing first missing k ≡ false → k < 15 → length xs ≡ 15 * f .slot
+  sent-at : isMissing first missing k ≡ false → k < 15 → length xs ≡ 15 * f .slot
       → r ≡ partVerdict f k (take (k * w + w - k * w) (drop (k * w) xs)) (k * w) → r ≡ slotVerdict f first missing xs k
   sent-at e h long is = digits-at f xs k w r p h long is ∙ sym (verdict-sent f first missing xs k e)
+
+-- .. as one function checks both
+pub checked-at : (f : Format) (first missing : ℕ) (xs : List ℕ) (k w : ℕ) (r : Verdict) → w ≡ f .slot → k < 15 → length xs ≡ 15 * f .slot
+    → r ≡ cond (isMissing first missing k) (silentVerdict (take (k * w + w - k * w) (drop (k * w) xs)) (k * w)) (partVerdict f k (take (k * w + w - k * w) (drop (k * w) xs)) (k * w))
+    → r ≡ slotVerdict f first missing xs k
+checked-at f first missing xs k w r p h long is = by-case (isMissing first missing k) refl
+  where
+    by-case : (b : Bool) → isMissing first missing k ≡ b → r ≡ slotVerdict f first missing xs k
+    by-case true e = missing-at f first missing xs k w r p e (rw e at is)
+    by-case false e = sent-at f first missing xs k w r p e h long (rw e at is)
 
 -- the frame is made of fifteen slots
 module _ (f : Format) (s : Sound f) (first missing : ℕ) (ends : first + missing ≤ 15) (d tfci commands : List ℕ)
@@ -83,6 +93,42 @@ module _ (f : Format) (first missing : ℕ) (d tfci commands out : List ℕ) (ro
       (lent-length i m tfci below (sized (transmitted missing) q (room .fields .tfci-ok)) ∙ q) out-ok
       in
       e ∙ leaves-done _ _ _ (number-0 head) ∙ rw (lent-is i n d, lent-is i m tfci, p, q, turn, sent)
+
+-- the i-th parts of the runs are there, and their bounds are small
+module _ (f : Format) (first missing dataLength tfciLength commandsLength frameLength : ℕ) (room : Room f first missing dataLength tfciLength commandsLength frameLength)
+    (i n m : ℕ) (h : i < transmitted missing) (p : n ≡ dataSize f) (q : m ≡ f .tfci) (n-short : n ≤ 1280) (m-short : m ≤ 1280) where
+  pub record Parts : Type 0 where
+    pub data-room : i * n + n ≤ dataLength
+    pub tfci-room : i * m + m ≤ tfciLength
+    pub command-room : i < commandsLength
+    pub data-small : i * n + n ≤ 20480
+    pub tfci-small : i * m + m ≤ 20480
+
+  pub parts-of : Parts
+  parts-of =
+      let a = part-room i (transmitted missing) n h in
+      let b = part-room i (transmitted missing) m h in
+      let x : dataLength ≡ transmitted missing * n = sized (transmitted missing) p (room .fields .data-ok) in
+      let y : tfciLength ≡ transmitted missing * m = sized (transmitted missing) q (room .fields .tfci-ok) in
+      let z = room .fields .commands-ok in
+      let u = small-product i n (omega arith) n-short in
+      let v = small-product i m (omega arith) m-short in
+      record { data-room = omega arith; tfci-room = omega arith; command-room = omega arith; data-small = omega arith; tfci-small = omega arith }
+
+-- .. and so are those of the turn of slot k
+pub turn-parts : (f : Format) (first missing dataLength tfciLength commandsLength frameLength : ℕ)
+    (room : Room f first missing dataLength tfciLength commandsLength frameLength) (k i n m : ℕ) → k < 15 → isMissing first missing k ≡ false → i ≡ turnOf first missing k
+    → n ≡ dataSize f → m ≡ f .tfci → n ≤ 1280 → m ≤ 1280 → (i * n + n ≤ dataLength) × (i * m + m ≤ tfciLength) × (i < commandsLength) × (i * n + n ≤ 20480) × (i * m + m ≤ 20480)
+turn-parts f first missing dataLength tfciLength commandsLength frameLength room k i n m h sent turn p q n-short m-short =
+    let below : i < transmitted missing = let t = one-to-one first missing (room .gap-ok) .turn-below k h sent in omega arith in
+    let r = parts-of f first missing dataLength tfciLength commandsLength frameLength room i n m below p q n-short m-short in
+    (r .data-room, r .tfci-room, r .command-room, r .data-small, r .tfci-small)
+
+-- what is asked of the runs, with the frame's length by the row
+pub room-for : (f : Format) (first missing dataLength tfciLength commandsLength frameLength : ℕ) → Room f first missing dataLength tfciLength commandsLength frameLength
+    → Room f first missing dataLength tfciLength commandsLength (15 * f .slot)
+room-for f first missing dataLength tfciLength commandsLength frameLength room =
+    record { there = room .there; stands = room .stands; gap-ok = room .gap-ok; fields = room .fields; frame-ok = refl }
 
 -- the fields of a frame, slot by slot
 module _ (f : Format) (s : Sound f) (first missing : ℕ) (ends : first + missing ≤ 15) (xs : List ℕ) (long : length xs ≡ 15 * f .slot) where

@@ -8,7 +8,7 @@ use run::unless;
 ghost use mathlib.Core.Path.{_≡_};
 ghost use mathlib.Core.List.{[], _∷_};
 ghost use Rattle.dpch.specs.Compressed.{formatIn};
-ghost use Rattle.compressed.specs.Rule.{isMissing, transmitted, gapStands};
+ghost use Rattle.compressed.specs.Rule.{isMissing, transmitted, turnOf, gapStands};
 ghost use Rattle.compressed.specs.Outcome.{gapHead, mapHead, readHead};
 
 // How many of a frame's slots are transmitted.
@@ -26,6 +26,19 @@ pub fn is_missing(first: usize, missing: usize, k: usize) -> bool
         return false;
     }
     k - first < missing
+}
+
+// Which of the transmitted slots slot k is.
+pub fn turn_of(first: usize, missing: usize, k: usize) -> usize
+    ensures { λ r. ⌜ r ≡ turnOf first missing k ⌝ }
+{
+    if k < first {
+        return k;
+    }
+    if k < missing {
+        return 0;
+    }
+    k - missing
 }
 
 // Whether the gap leaves as many slots as the row permits, and ends by slot 14.

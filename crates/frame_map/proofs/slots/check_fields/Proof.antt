@@ -80,7 +80,7 @@ fields-verdict-requires c κs = search needs
 returns : tie.Need-returns Inv-loop μ-loop
 returns c =
     let s = c .before .before .before .before .before .before .before .before .sizes-of .ensures in
-    let at-k = fields-at _ _ _ (now (c .before .before .before .before .before .before .before .before .before .before .before .before .args .commands)) _ _ _ _ (s .data-is) (s .tfci-is) (c .before .before .fields-verdict .ensures) in
+    let at-k = fields-at (formatOf (c .before .before .before .before .before .before .before .before .before .before .before .before .args .format)) _ _ (now (c .before .before .before .before .before .before .before .before .before .before .before .before .args .commands)) _ _ _ _ (s .data-is) (s .tfci-is) (c .before .before .fields-verdict .ensures) in
     at-k ∙ sym (chain-hit 15 _ _ (c .before .before .before .before .before .before .loop-test .taken) (c .before .before .before .before .before .before .before .loop .inv .1) (rw at-k at (c .if1 .taken)))
 
 add-k : tie.Need-add-k Inv-loop μ-loop
@@ -92,7 +92,7 @@ loop-less c = omega arith
 loop-again : tie.Need-loop-again Inv-loop μ-loop
 loop-again c =
     let s = c .before .before .before .before .before .before .before .before .sizes-of .ensures in
-    let at-k = fields-at _ _ _ (now (c .before .before .before .before .before .before .before .before .before .before .before .before .args .commands)) _ _ _ _ (s .data-is) (s .tfci-is) (c .before .before .fields-verdict .ensures) in
+    let at-k = fields-at (formatOf (c .before .before .before .before .before .before .before .before .before .before .before .before .args .format)) _ _ (now (c .before .before .before .before .before .before .before .before .before .before .before .before .args .commands)) _ _ _ _ (s .data-is) (s .tfci-is) (c .before .before .fields-verdict .ensures) in
     (omega arith, below-more _ _ (c .before .before .before .before .before .before .before .loop .inv .1) (rw at-k at (c .if1 .left)))
 
 returns-2 : tie.Need-returns-2 Inv-loop μ-loop
