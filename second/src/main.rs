@@ -29,6 +29,7 @@ const CHANNELS: &[Channel] = &[
     ("pich", compare::pich::all),
     ("dpch", compare::dpch::all),
     ("frame", compare::frame::all),
+    ("compressed", compare::compressed::all),
     ("dpdch", compare::dpdch::all),
     ("dpcch", compare::dpcch::all),
     ("sttd", compare::sttd::all),

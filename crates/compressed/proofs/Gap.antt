@@ -21,11 +21,11 @@ sides {X} a b p q = side (ltb a b) refl
     side false e = q (ltb-false a b e)
 
 module _ (first missing : ℕ) where
-  number-before : (i : ℕ) → i < first → numberOf first missing i ≡ i
+  pub number-before : (i : ℕ) → i < first → numberOf first missing i ≡ i
   unfolding numberOf
   number-before i h = rw (lt-ltb i first h)
 
-  number-behind : (i : ℕ) → first ≤ i → numberOf first missing i ≡ i + missing
+  pub number-behind : (i : ℕ) → first ≤ i → numberOf first missing i ≡ i + missing
   unfolding numberOf
   number-behind i h = rw (le-ltb i first h)
 

@@ -124,6 +124,19 @@ turn-parts f first missing dataLength tfciLength commandsLength frameLength room
     let r = parts-of f first missing dataLength tfciLength commandsLength frameLength room i n m below p q n-short m-short in
     (r .data-room, r .tfci-room, r .command-room, r .data-small, r .tfci-small)
 
+-- .. and of the i-th transmitted slot, and its own part of the frame
+pub take-parts : (f : Format) (first missing dataLength tfciLength commandsLength frameLength : ℕ)
+    (room : Room f first missing dataLength tfciLength commandsLength frameLength) (i k n m w : ℕ) → i < transmitted missing → k ≡ numberOf first missing i
+    → n ≡ dataSize f → m ≡ f .tfci → w ≡ f .slot → n ≤ 1280 → m ≤ 1280 → w ≤ 1280
+    → (i * n + n ≤ dataLength) × (i * m + m ≤ tfciLength) × (i < commandsLength) × (i * n + n ≤ 20480) × (i * m + m ≤ 20480) × (k * w + w ≤ frameLength) × (k * w + w ≤ 20480)
+take-parts f first missing dataLength tfciLength commandsLength frameLength room i k n m w h number p q r n-short m-short w-short =
+    let x = parts-of f first missing dataLength tfciLength commandsLength frameLength room i n m h p q n-short m-short in
+    let below : k < 15 = let z = one-to-one first missing (room .gap-ok) .number-below i h in omega arith in
+    let y = part-room k 15 w below in
+    let z : frameLength ≡ 15 * w = sized 15 r (room .frame-ok) in
+    let u = small-product k w (omega arith) w-short in
+    (x .data-room, x .tfci-room, x .command-room, x .data-small, x .tfci-small, omega arith, omega arith)
+
 -- what is asked of the runs, with the frame's length by the row
 pub room-for : (f : Format) (first missing dataLength tfciLength commandsLength frameLength : ℕ) → Room f first missing dataLength tfciLength commandsLength frameLength
     → Room f first missing dataLength tfciLength commandsLength (15 * f .slot)

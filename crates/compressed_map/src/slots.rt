@@ -53,27 +53,27 @@ pub(crate) fn check_fields(
     }
 }
 
-// Slot k into its part of the frame: of its own number and of the command and the parts of its turn, or silent.
+// A slot into its part of the frame: of its own number and of the command and the parts of its turn, or silent.
 fn write_slot(
     kind: usize,
     format: usize,
     first: usize,
     missing: usize,
-    k: usize,
+    slot: usize,
     data: &[u8],
     tfci: &[u8],
     out: &mut [u8],
     commands: &[u8],
 )
-    requires { ⌜ Room (formatIn kind format) first missing (length (now «data»)) (length (now tfci)) (length (now commands)) (15 * formatIn kind format .slot) × (k < 15) × (length (now out) ≡ formatIn kind format .slot) ⌝ }
-    ensures { λ _. ⌜ now (out .exit) ≡ slotAt (formatIn kind format) first missing (now («data» .entry)) (now (tfci .entry)) (now (commands .entry)) k ⌝ }
+    requires { ⌜ Room (formatIn kind format) first missing (length (now «data»)) (length (now tfci)) (length (now commands)) (15 * formatIn kind format .slot) × (slot < 15) × (length (now out) ≡ formatIn kind format .slot) ⌝ }
+    ensures { λ _. ⌜ now (out .exit) ≡ slotAt (formatIn kind format) first missing (now («data» .entry)) (now (tfci .entry)) (now (commands .entry)) slot ⌝ }
 {
-    if compressed::is_missing(first, missing, k) {
+    if compressed::is_missing(first, missing, slot) {
         write::fill(out, DTX);
         return;
     }
     let s = row_sizes(kind, format);
-    let i = compressed::turn_of(first, missing, k);
+    let i = compressed::turn_of(first, missing, slot);
     let a = i * s.data;
     let e = a + s.data;
     let b = i * s.tfci;
@@ -81,7 +81,7 @@ fn write_slot(
     slot_put::put_row(
         kind,
         format,
-        k,
+        slot,
         commands[i],
         &data[a..e],
         &tfci[b..c],
