@@ -1,4 +1,5 @@
 // One slot of the downlink DPCH: its rule, promises and theorems, and the checks of numbers and lengths: docs/RULES.md, 'DPCH slot'; TS 25.211, 5.3.2.
+use dpch::Format;
 use dpch::slot_head;
 use run::Verdict;
 use run::lengths;
@@ -9,7 +10,7 @@ ghost use mathlib.Core.Path.{_≡_};
 ghost use Rattle.dpch.specs.Formats.{formatOf};
 ghost use Rattle.dpch.specs.Compressed.{formatIn};
 ghost use Rattle.slot.specs.Outcome.{mapHead, readHead, rowHead};
-ghost use Rattle.slot.specs.Ready.{SizesOf};
+ghost use Rattle.slot.specs.Ready.{Sound, SizesOf};
 
 // The lengths of one slot's runs.
 pub struct Sizes {
@@ -18,15 +19,29 @@ pub struct Sizes {
     pub slot: usize,
 }
 
-pub fn sizes_of(format: usize) -> Sizes
-    ensures { λ r. ⌜ SizesOf (formatOf format) r ⌝ }
+fn sizes_in(f: Format) -> Sizes
+    requires { ⌜ Sound f ⌝ }
+    ensures { λ r. ⌜ SizesOf f r ⌝ }
 {
-    let f = dpch::format_of(format);
     Sizes {
         data: f.data1 + f.data2,
         tfci: f.tfci,
         slot: f.slot,
     }
+}
+
+// .. in a normal format.
+pub fn sizes_of(format: usize) -> Sizes
+    ensures { λ r. ⌜ SizesOf (formatOf format) r ⌝ }
+{
+    sizes_in(dpch::format_of(format))
+}
+
+// .. in a row of any kind.
+pub fn row_sizes(kind: usize, format: usize) -> Sizes
+    ensures { λ r. ⌜ SizesOf (formatIn kind format) r ⌝ }
+{
+    sizes_in(dpch_rows::format_in(kind, format))
 }
 
 // The checks of numbers and lengths before a slot is mapped.
@@ -71,34 +86,22 @@ pub fn read_head(
     )
 }
 
-// The lengths of one slot's runs, in a row of any kind.
-pub fn row_sizes(kind: usize, format: usize) -> Sizes
-    ensures { λ r. ⌜ SizesOf (formatIn kind format) r ⌝ }
-{
-    let f = dpch_rows::format_in(kind, format);
-    Sizes {
-        data: f.data1 + f.data2,
-        tfci: f.tfci,
-        slot: f.slot,
-    }
-}
-
 // The checks of row and lengths before a slot of a compressed format is written or taken.
 pub fn row_head(
     kind: usize,
     format: usize,
     data_length: usize,
     tfci_length: usize,
-    slot_length: usize,
+    run_length: usize,
 ) -> Verdict
-    ensures { λ r. ⌜ r ≡ rowHead (formatIn kind format) «data_length» «tfci_length» «slot_length» ⌝ }
+    ensures { λ r. ⌜ r ≡ rowHead (formatIn kind format) «data_length» «tfci_length» «run_length» ⌝ }
 {
     let f = dpch_rows::format_in(kind, format);
     let s = row_sizes(kind, format);
     let right = lengths(
         data_length == s.data,
         tfci_length == s.tfci,
-        slot_length == s.slot,
+        run_length == s.slot,
         true,
     );
     or_else(unless(0 < f.kind, refusal::FORMAT, 0), right)

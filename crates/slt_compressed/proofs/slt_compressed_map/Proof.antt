@@ -19,7 +19,7 @@ same-length c = search needs
 returns : tie.Need-returns
 returns c =
     let m = c .before .before .before .map .ensures in
-    record { answer-is = fitted 0 (c .pack .ensures) (m .verdict-is) (packs .map-narrow (a .format) (a .kind) _ _ _ _ _ _) (lit< tt); out-is = m .out-is }
+    record { answer-is = fitted 0 (c .pack .ensures) (m .verdict-is) (packs .map-narrow _ _ _ _ _ _ _ _) (lit< tt); out-is = m .out-is }
 
 pub slt-compressed-map-spec : {M : Type 1} → statement M
 slt-compressed-map-spec = tie.close (tie.spec map-requires pack-requires same-length returns)

@@ -25,7 +25,7 @@ same-length-3 c = search needs
 returns : tie.Need-returns
 returns c =
     let m = c .before .before .before .before .before .before .before .read .ensures in
-    record { answer-is = fitted 0 (c .pack .ensures) (m .verdict-is) (packs .read-narrow (a .format) (a .kind) _ _ _ _ _ _) (lit< tt); data-is = m .data-is; tfci-is = m .tfci-is; commands-is = m .commands-is }
+    record { answer-is = fitted 0 (c .pack .ensures) (m .verdict-is) (packs .read-narrow _ _ _ _ _ _ _ _) (lit< tt); data-is = m .data-is; tfci-is = m .tfci-is; commands-is = m .commands-is }
 
 pub slt-compressed-read-spec : {M : Type 1} → statement M
 slt-compressed-read-spec =
