@@ -4,6 +4,7 @@
 
 void bench_dpch(void);
 void bench_frame(void);
+void bench_compressed(void);
 void bench_dpdch(void);
 void bench_dpcch(void);
 void bench_pich(void);
