@@ -110,13 +110,7 @@ pub(crate) fn take(
         let c = b + m;
         let i = k * w;
         let j = i + w;
-        let taken = slot_read::take_row(
-            kind,
-            format,
-            &xs[i..j],
-            &mut data[a..e],
-            &mut tfci[b..c],
-        );
+        let taken = slot_read::take_row(kind, format, &xs[i..j], &mut data[a..e], &mut tfci[b..c]);
         commands[t] = taken.tpc as u8;
         t += 1;
     }

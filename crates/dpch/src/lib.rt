@@ -13,7 +13,9 @@ ghost use Rattle.dpch.specs.Pilots.{pilotRow};
 
 // The kinds of formats: the normal ones, those of frames compressed by higher layer scheduling, and those of frames compressed by a halved spreading factor.
 pub const NORMAL: usize = 0;
+
 pub const KIND_A: usize = 1;
+
 pub const KIND_B: usize = 2;
 
 // A row of the table: the bits of each field of a slot, and of the slot; the kind; and how many of a frame's slots are transmitted, at least and at most.
@@ -45,14 +47,7 @@ pub struct Command {
 }
 
 // A row of the table's normal formats, in which all fifteen slots are transmitted.
-fn row(
-    data1: usize,
-    data2: usize,
-    tpc: usize,
-    tfci: usize,
-    pilot: usize,
-    slot: usize,
-) -> Format
+fn row(data1: usize, data2: usize, tpc: usize, tfci: usize, pilot: usize, slot: usize) -> Format
     ensures { λ r. ⌜ r ≡ row data1 data2 tpc tfci pilot slot ⌝ }
 {
     Format {

@@ -81,7 +81,13 @@ pub(crate) fn check(f: Format, slot: usize, xs: &[u8], base: u32) -> Verdict
     let d = c + f.data2;
     let e = d + f.pilot;
     let pilot = &xs[d..e];
-    let last = placed(pilot, pilot_differs(pilot, f.kind, slot), refusal::PILOT, base, d);
+    let last = placed(
+        pilot,
+        pilot_differs(pilot, f.kind, slot),
+        refusal::PILOT,
+        base,
+        d,
+    );
     let tfci = &xs[b..c];
     let kinds = or_else(
         placed(tfci, first_mixed(tfci), refusal::TFCI, base, b),

@@ -44,13 +44,7 @@ pub fn take(format: usize, slot: usize, xs: &[u8], data: &mut [u8], tfci: &mut [
 }
 
 // .. of a slot of a compressed format's row.
-pub fn take_row(
-    kind: usize,
-    format: usize,
-    xs: &[u8],
-    data: &mut [u8],
-    tfci: &mut [u8],
-) -> Command
+pub fn take_row(kind: usize, format: usize, xs: &[u8], data: &mut [u8], tfci: &mut [u8]) -> Command
     ensures { λ r. ⌜ TakeRow (formatIn kind format) (now (xs .entry)) (now («data» .entry)) (now (tfci .entry)) r (now («data» .exit)) (now (tfci .exit)) ⌝ }
 {
     let head = slot::row_head(kind, format, data.len(), tfci.len(), xs.len());

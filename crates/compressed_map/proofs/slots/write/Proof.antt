@@ -57,7 +57,7 @@ loop-less : tie.Need-loop-less Inv-loop μ-loop
 loop-less c = omega arith
 
 loop-again : tie.Need-loop-again Inv-loop μ-loop
-loop-again c = 
+loop-again c =
     let pre = c .before .before .before .before .before .before .before .before .before .before .before .pre in (
       omega arith,
       slot-written _ (sound-row _ _) _ _ (pre .gap-ok) _ _ (now (c .before .before .before .before .before .before .before .before .before .before .before .args .commands)) (pre .fields .data-ok) (pre .fields .tfci-ok) _ _ _ _ _ (pre .frame-ok) (c .before .before .before .before .loop-test .taken) (c .before .before .before .before .before .before .row-sizes .ensures .slot-is) (c .before .before .before .before .before .loop .inv .1)
@@ -68,7 +68,7 @@ same-length : tie.Need-same-length Inv-loop μ-loop
 same-length c = front-length (c .before .loop .inv .1)
 
 returns : tie.Need-returns Inv-loop μ-loop
-returns c = 
+returns c =
     let all : c .before .loop .k ≡ 15 = omega arith in
     let end : c .before .loop .k * c .before .before .row-sizes .result .slot ≡ 15 * formatIn (c .before .before .before .before .before .before .before .args .kind) (c .before .before .before .before .before .before .before .args .format) .slot = rw (all, c .before .before .row-sizes .ensures .slot-is) in
     let room = c .before .before .before .before .before .before .before .pre .frame-ok in

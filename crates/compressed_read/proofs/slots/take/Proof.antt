@@ -28,7 +28,7 @@ transmitted-requires : tie.Need-transmitted-requires Inv-loop μ-loop
 transmitted-requires c κs = search needs
 
 loop-holds : tie.Need-loop-holds Inv-loop μ-loop
-loop-holds c = 
+loop-holds c =
     let room = c .before .before .before .before .before .before .pre .0 in
     let long = room .frame-ok in (
       omega arith,
@@ -89,7 +89,7 @@ take-row-requires : tie.Need-take-row-requires Inv-loop μ-loop
 take-row-requires c κs = search needs
 
 cast-commands : tie.Need-cast-commands Inv-loop μ-loop
-cast-commands c = 
+cast-commands c =
     let a = c .before .before .before .before .before .before .before .before .before .before .before .before .before .before .before .before .before .before .args in
     let room = c .before .before .before .before .before .before .before .before .before .before .before .before .before .before .before .before .before .before .pre .0 in
     let s = c .before .before .before .before .before .before .before .before .before .before .before .before .before .row-sizes .ensures in
@@ -111,7 +111,7 @@ loop-less : tie.Need-loop-less Inv-loop μ-loop
 loop-less c = omega arith
 
 loop-again : tie.Need-loop-again Inv-loop μ-loop
-loop-again c = 
+loop-again c =
     let a = c .before .before .before .before .before .before .before .before .before .before .before .before .before .before .before .before .before .before .args in
     let room = c .before .before .before .before .before .before .before .before .before .before .before .before .before .before .before .before .before .before .pre .0 in
     let s = c .before .before .before .before .before .before .before .before .before .before .before .before .before .row-sizes .ensures in
@@ -137,7 +137,7 @@ same-length-3 : tie.Need-same-length-3 Inv-loop μ-loop
 same-length-3 c = front-length (c .before .loop .inv .3)
 
 returns : tie.Need-returns Inv-loop μ-loop
-returns c = 
+returns c =
     let room = c .before .before .before .before .before .before .before .before .pre .0 in
     let a = c .before .before .before .before .before .before .before .before .args in
     let s = c .before .before .before .row-sizes .ensures in
