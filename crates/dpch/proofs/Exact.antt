@@ -64,6 +64,11 @@ pub fields-fill : FieldsFill
 unfolding full
 fields-fill channel n = eqb-true _ _ (every-full channel n)
 
+-- .. of the normal formats by their number
+pub normal-fill : (format : ℕ) → total (widths (formatOf format)) ≡ formatOf format .slot
+unfolding formatIn
+normal-fill format = fields-fill (downlinkDpch 0) format
+
 tpc-some : Every (λ (n : ℕ). ltb 0 (formatOf n .tpc)) 17
 unfolding formats formatOf firstBad
 tpc-some = every-by _ 17 refl
