@@ -1,6 +1,6 @@
 -- The theorems of specs/Blocks.antt, and one block more of a run that is written from the front on.
 -- Assumes nothing.
-use Prim.Native.Nat.{ℕ, _+_, _-_, _*_, _<_}
+use Prim.Native.Nat.{ℕ, _*_, _<_}
 use mathlib.Core.Path.{_≡_, sym, ap, _∙_}
 use mathlib.Core.List.{List}
 use native.Mathlib.Nat.{mul-comm}
@@ -45,7 +45,7 @@ any-blocks A m w code keeps =
     }
 
 -- a block of four of an encoded run is the block encoded
-four-part : {A : Type 0} (bar : A → A) (s : List A) (k : ℕ) → sttd bar (part k 4 s) ≡ part k 4 (sttd bar s)
+pub four-part : {A : Type 0} (bar : A → A) (s : List A) (k : ℕ) → sttd bar (part k 4 s) ≡ part k 4 (sttd bar s)
 unfolding part
 four-part bar s k =
     sttd-take bar 1 (drop (k * 4) s)

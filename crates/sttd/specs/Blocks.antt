@@ -4,7 +4,7 @@
 use Prim.Native.Nat.{ℕ, _*_, _<_}
 use mathlib.Core.Path.{_≡_}
 use mathlib.Core.List.{List}
-use lib.ListN.{length, getD}
+use lib.ListN.{length}
 use Rattle.run.specs.Fields.{joined}
 use Rattle.run.specs.Parts.{part}
 use Rattle.run.specs.Table.{tab}
