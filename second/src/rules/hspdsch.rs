@@ -2,6 +2,7 @@
 //! sends -conj(S2), conj(S1) where antenna 1 sends S1, S2.
 
 use crate::answer::{Refusal, refuse};
+use std::sync::OnceLock;
 
 /// Formats 0 and 1.
 pub const FORMATS: usize = 2;
@@ -68,14 +69,20 @@ pub fn coded(block: &[u8]) -> Vec<u8> {
     [digits_of(s2.conj().negated(), count), digits_of(s1.conj(), count)].concat()
 }
 
-/// What antenna 2 sends of the data, two symbols at a time. Every block is computed once.
+/// What antenna 2 sends of every block of a format, each computed once; block b has digit b0 in its lowest bit.
+fn table(format: usize) -> &'static [Vec<u8>] {
+    static TABLES: [OnceLock<Vec<Vec<u8>>>; FORMATS] = [const { OnceLock::new() }; FORMATS];
+    TABLES[format].get_or_init(|| {
+        let width = 2 * per_symbol(format);
+        let block = |set: usize| (0..width).map(|place| (set >> place & 1) as u8).collect::<Vec<u8>>();
+        (0..1 << width).map(|set| coded(&block(set))).collect()
+    })
+}
+
+/// What antenna 2 sends of the data, two symbols at a time.
 pub fn second(format: usize, data: &[u8]) -> Vec<u8> {
-    let width = 2 * per_symbol(format);
     let number = |block: &[u8]| block.iter().rev().fold(0, |sum, digit| 2 * sum + usize::from(*digit));
-    let table: Vec<Vec<u8>> = (0..1_usize << width)
-        .map(|set| coded(&(0..width).map(|place| (set >> place & 1) as u8).collect::<Vec<u8>>()))
-        .collect();
-    data.chunks(width).flat_map(|block| table[number(block)].iter().copied()).collect()
+    data.chunks(2 * per_symbol(format)).flat_map(|block| table(format)[number(block)].iter().copied()).collect()
 }
 
 /// 1 (format above 1), 3 at the first run that is not as long as a subframe.
