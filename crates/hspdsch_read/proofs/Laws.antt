@@ -1,13 +1,12 @@
 -- The checks of two subframes whose lengths are right, as the code makes them.
 -- Assumes nothing.
-use mathlib.Core.Path.{_≡_, refl, sym, ap, _∙_}
-use mathlib.Core.List.{List, _++_}
+use mathlib.Core.Path.{_≡_, refl, sym, _∙_}
+use mathlib.Core.List.{List}
 use Prim.Native.Nat.{ℕ, _+_, _≤_, min}
 use native.Mathlib.Omega.{arith}
 use borrow.Author.Tests.{eq-eqb}
 use lib.Dec.{leb}
-use lib.ListN.{length, take}
-use lib.Seq.{take-at}
+use lib.ListN.{length}
 use Rattle.run.specs.declared.Verdict.{Verdict}
 use Rattle.run.specs.First.{firstBad, atMost, agree}
 use Rattle.run.specs.Verdicts.{orElse, unless, each, leaves}
@@ -32,29 +31,23 @@ module _ (format : ℕ) (antenna1 antenna2 : List ℕ) (known : format ≤ 1) (f
     body-stops stop = bits-told ∙ sym (or-else-refused _ _ (rw bits-told at stop))
 
     -- what antenna 1 gives is compared, and the answer is that of the checks of antenna 2
-    module _ (done : v .number ≡ 0) {ys out rest : List ℕ} (made : ys ≡ leaves (mapVerdict format antenna1 (size format) room) (secondOf format antenna1) out) where
-      sent : take (length antenna1) (ys ++ rest) ≡ secondOf format antenna1
-      sent =
-          let is : ys ≡ secondOf format antenna1 = made ∙ leaves-done _ _ _ (rw told at done) in
-          let long : length ys ≡ length antenna1 = ap length is ∙ second-length format known antenna1 first-ok ∙ sym first-ok in
-          take-at ys rest (length antenna1) long ∙ is
+    module _ (done : v .number ≡ 0) {ys out : List ℕ} (made : ys ≡ leaves (mapVerdict format antenna1 (size format) room) (secondOf format antenna1) out) where
+      given : ys ≡ secondOf format antenna1
+      given = made ∙ leaves-done _ _ _ (rw told at done)
 
-      differs : {m : ℕ} → m ≡ firstBad (agree (take (length antenna1) (ys ++ rest)) antenna2) (min (length (take (length antenna1) (ys ++ rest))) (length antenna2))
-          → m ≡ firstBad (agree (secondOf format antenna1) antenna2) (length antenna2)
+      differs : {m : ℕ} → m ≡ firstBad (agree ys antenna2) (min (length ys) (length antenna2)) → m ≡ firstBad (agree (secondOf format antenna1) antenna2) (length antenna2)
       differs found =
           let n : length (secondOf format antenna1) ≡ size format = second-length format known antenna1 first-ok in
           let all : min (length (secondOf format antenna1)) (length antenna2) ≡ length antenna2 = omega arith in
-          rw (sent, all) at found
+          rw (given, all) at found
 
-      pub body-goes-on : {i m : ℕ} {r w t : Verdict} → i ≡ firstBad (atMost 1 antenna2) (length antenna2)
-          → m ≡ firstBad (agree (take (length antenna1) (ys ++ rest)) antenna2) (min (length (take (length antenna1) (ys ++ rest))) (length antenna2))
+      pub body-goes-on : {i m : ℕ} {r w t : Verdict} → i ≡ firstBad (atMost 1 antenna2) (length antenna2) → m ≡ firstBad (agree ys antenna2) (min (length ys) (length antenna2))
           → t ≡ unless (leb (length antenna1) m) 9 (length antenna1 + m) → w ≡ unless (leb (length antenna1) i) 4 (length antenna1 + i) → r ≡ orElse w t
           → r ≡ readBody format antenna1 antenna2
       unfolding readBody
       body-goes-on {i} {m} {r} {w} {t} found compared last digits joined =
-          let same : length antenna1 ≡ length antenna2 = first-ok ∙ sym second-ok in
-          let t′ : t ≡ unless (leb (length antenna2) m) 9 (size format + m) = last ∙ rw (← first-ok, same) in
-          let w′ : w ≡ unless (leb (length antenna2) i) 4 (size format + i) = digits ∙ rw (← first-ok, same) in
+          let t′ : t ≡ unless (leb (length antenna2) m) 9 (size format + m) = last ∙ rw (first-ok, second-ok) in
+          let w′ : w ≡ unless (leb (length antenna2) i) 4 (size format + i) = digits ∙ rw (first-ok, second-ok) in
           or-else-is joined
           (each-is (size format) 4 (atMost 1 antenna2) (length antenna2) i w found w′)
           (each-is (size format) 9 (agree (secondOf format antenna1) antenna2) (length antenna2) m t (differs compared) t′)

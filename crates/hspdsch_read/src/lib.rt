@@ -16,21 +16,29 @@ fn read_head(format: usize, length1: usize, length2: usize, data_length: usize) 
     dpch::frame_head(1, format, length1 == n, length2 == n, data_length == n, true)
 }
 
-// Antenna 1's digits are mapped again, which tells the first that is no bit, and what they give is compared with antenna 2.
+// Antenna 1's digits are mapped again into `room`, which tells the first that is no bit, and what they give is compared with antenna 2.
+fn compared(format: usize, antenna1: &[u8], antenna2: &[u8], room: &mut [u8]) -> Verdict
+    requires { ⌜ (format ≤ 1) × (length (now antenna1) ≡ size format) × (length (now antenna2) ≡ size format) × (length (now room) ≡ size format) ⌝ }
+    ensures { λ r. ⌜ r ≡ readBody format (now (antenna1 .entry)) (now (antenna2 .entry)) ⌝ }
+{
+    let given = hspdsch::second(format, antenna1, room);
+    if given.number != 0 {
+        return given;
+    }
+    let n = antenna1.len();
+    let i = scan::first_above(antenna2, 1);
+    let m = scan::first_diff(room, antenna2);
+    let differs = unless(n <= m, refusal::FRAME, n + m);
+    or_else(unless(n <= i, refusal::DIGIT, n + i), differs)
+}
+
 fn read_body(format: usize, antenna1: &[u8], antenna2: &[u8]) -> Verdict
     requires { ⌜ (format ≤ 1) × (length (now antenna1) ≡ size format) × (length (now antenna2) ≡ size format) ⌝ }
     ensures { λ r. ⌜ r ≡ readBody format (now (antenna1 .entry)) (now (antenna2 .entry)) ⌝ }
 {
-    let mut second = [0u8; 1920];
+    let mut room = [0u8; 1920];
     let n = antenna1.len();
-    let first = hspdsch::second(format, antenna1, &mut second[0..n]);
-    if first.number != 0 {
-        return first;
-    }
-    let i = scan::first_above(antenna2, 1);
-    let m = scan::first_diff(&second[0..n], antenna2);
-    let differs = unless(n <= m, refusal::FRAME, n + m);
-    or_else(unless(n <= i, refusal::DIGIT, n + i), differs)
+    compared(format, antenna1, antenna2, &mut room[0..n])
 }
 
 fn read_verdict(format: usize, antenna1: &[u8], antenna2: &[u8], data_length: usize) -> Verdict
