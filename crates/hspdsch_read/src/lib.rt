@@ -13,7 +13,14 @@ fn read_head(format: usize, length1: usize, length2: usize, data_length: usize) 
     ensures { λ r. ⌜ r ≡ readHead format length1 length2 «data_length» ⌝ }
 {
     let n = hspdsch::size_of(format);
-    dpch::frame_head(1, format, length1 == n, length2 == n, data_length == n, true)
+    dpch::frame_head(
+        1,
+        format,
+        length1 == n,
+        length2 == n,
+        data_length == n,
+        true,
+    )
 }
 
 // Antenna 1's digits are mapped again into `room`, which tells the first that is no bit, and what they give is compared with antenna 2.

@@ -46,8 +46,7 @@ part-encode-two-end-2 c = omega (arith, front-length (c .before .before .loop .i
 encode-two-requires : tie.Need-encode-two-requires Inv-loop μ-loop
 encode-two-requires c κs =
     let head = c .before .before .before in
-    let start = head .before .before .before in
-    (
+    let start = head .before .before .before in (
       part-length (start .args .input .now) (head .loop .i) 16 (omega arith),
       front-lent (head .loop .i) (head .loop .i + 16) (head .loop .inv .2) (omega arith) ∙ part-width (head .loop .i) 16,
       part-bits (start .args .input .now) (head .loop .i) (head .loop .i + 16 - head .loop .i) (start .pre .2),
@@ -59,8 +58,7 @@ loop-less c = omega arith
 loop-again : tie.Need-loop-again Inv-loop μ-loop
 loop-again c =
     let turn = c .before .before .before .before .before in
-    let start = turn .before .before .before .before in
-    (
+    let start = turn .before .before .before .before in (
       omega arith,
       omega arith,
       two-more (start .args .input .now) (start .pre .0) (turn .before .loop .inv .0) (omega arith) (start .pre .1) (turn .before .loop .inv .2) (c .before .before .encode-two .ensures),

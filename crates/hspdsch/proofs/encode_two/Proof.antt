@@ -52,8 +52,7 @@ part-encode-eight-end-4 c = search needs
 
 encode-eight-requires-2 : tie.Need-encode-eight-requires-2
 encode-eight-requires-2 c κs =
-    let start = c .before .before .before .before .before .before .before .before .before in
-    (
+    let start = c .before .before .before .before .before .before .before .before .before in (
       part-length (start .args .input .now) 8 8 (omega arith),
       front-lent 8 16 (first-written (start .args .input .now) (start .args .out .now) (start .pre .0) (start .pre .1) (c .before .before .before .before .encode-eight .ensures)) (omega arith),
       part-bits (start .args .input .now) 8 8 (start .pre .2),
