@@ -21,7 +21,7 @@ pub fn size_of(format: usize) -> usize
     }
 }
 
-// One block of bits. The bar of a bit is its other value.
+// One block of bits. The bar of a bit is its other value. All are read before one is written: then they are written at once.
 fn encode_eight(input: &[u8], out: &mut [u8])
     requires { ⌜ (length (now input) ≡ 8) × (length (now out) ≡ 8) × Every (atMost 1 (now input)) (length (now input)) ⌝ }
     ensures { λ _. ⌜ now (out .exit) ≡ picked figure8A (now (input .entry)) ⌝ }
@@ -30,10 +30,14 @@ fn encode_eight(input: &[u8], out: &mut [u8])
     let b1 = input[1];
     let b2 = input[2];
     let b3 = input[3];
-    out[0] = input[4] ^ 1;
-    out[1] = input[5];
-    out[2] = input[6];
-    out[3] = input[7];
+    let b4 = input[4];
+    let b5 = input[5];
+    let b6 = input[6];
+    let b7 = input[7];
+    out[0] = b4 ^ 1;
+    out[1] = b5;
+    out[2] = b6;
+    out[3] = b7;
     out[4] = b0;
     out[5] = b1 ^ 1;
     out[6] = b2;

@@ -20,26 +20,26 @@ shared-slice-read-b2 c = search needs
 shared-slice-read-b3 : tie.Need-shared-slice-read-b3
 shared-slice-read-b3 c = search needs
 
-shared-slice-read-out : tie.Need-shared-slice-read-out
-shared-slice-read-out c = search needs
+shared-slice-read-b4 : tie.Need-shared-slice-read-b4
+shared-slice-read-b4 c = search needs
 
 slice-write-out : tie.Need-slice-write-out
 slice-write-out c = search needs
 
-shared-slice-read-out-2 : tie.Need-shared-slice-read-out-2
-shared-slice-read-out-2 c = search needs
+shared-slice-read-b5 : tie.Need-shared-slice-read-b5
+shared-slice-read-b5 c = search needs
 
 slice-write-out-2 : tie.Need-slice-write-out-2
 slice-write-out-2 c = search needs
 
-shared-slice-read-out-3 : tie.Need-shared-slice-read-out-3
-shared-slice-read-out-3 c = search needs
+shared-slice-read-b6 : tie.Need-shared-slice-read-b6
+shared-slice-read-b6 c = search needs
 
 slice-write-out-3 : tie.Need-slice-write-out-3
 slice-write-out-3 c = search needs
 
-shared-slice-read-out-4 : tie.Need-shared-slice-read-out-4
-shared-slice-read-out-4 c = search needs
+shared-slice-read-b7 : tie.Need-shared-slice-read-b7
+shared-slice-read-b7 c = search needs
 
 slice-write-out-4 : tie.Need-slice-write-out-4
 slice-write-out-4 c = search needs
@@ -82,13 +82,13 @@ encode-eight-spec =
     shared-slice-read-b1
     shared-slice-read-b2
     shared-slice-read-b3
-    shared-slice-read-out
+    shared-slice-read-b4
+    shared-slice-read-b5
+    shared-slice-read-b6
+    shared-slice-read-b7
     slice-write-out
-    shared-slice-read-out-2
     slice-write-out-2
-    shared-slice-read-out-3
     slice-write-out-3
-    shared-slice-read-out-4
     slice-write-out-4
     slice-write-out-5
     slice-write-out-6
