@@ -1,3 +1,5 @@
 pub mod Count
 pub mod Circle
 pub mod Serving
+pub mod Round
+pub mod Slot

@@ -1,50 +1,59 @@
+-- `desk::marks` meets its contract: each turn stores the indicator of one signature more.
+-- Assumes nothing.
+use mathlib.Core.Path.{_≡_, sym, _∙_}
+use Prim.Native.Nat.{ℕ, _-_, _≤_, _<_}
+use native.Mathlib.Omega.{arith}
+use mir.Syntax.{w32}
+use mir.Facts.{toZ-ofZ}
+use lib.IntN.{pos}
+use Rattle.run.proofs.Front.{Front, front-none, front-length, front-store, front-all}
+use Rattle.run.proofs.Table.{tab-length, tab-at}
+use Rattle.aich.specs.Rule.{offers}
+use Rattle.desk.specs.Method.{markOf, marksOf}
+use borrow.Author.Needs.{needs}
 use Rattle.desk.proofs.marks.Statement.{statement}
 use Rattle.desk.proofs.marks.Tie as tie
-use Rattle.desk.proofs.marks.Reads as reads
-use Rattle.desk.proofs.marks.Lts as lts
-use Rattle.desk.proofs.mark.Reads as mark-reads
 
 abbrev Inv-loop : tie.InvT-loop
-Inv-loop candidates last q indicators₀ s₀ indicators s = ?
+Inv-loop candidates last q indicators₀ s₀ indicators s = (s ≤ 16) × Front (marksOf (offers candidates) last q) indicators₀ indicators s
 
 abbrev μ-loop : tie.MeasureT-loop
-μ-loop candidates last q indicators₀ s₀ indicators s = ?
+μ-loop candidates last q indicators₀ s₀ indicators s = 16 - s
 
--- src/lib.rt:99:5
 loop-holds : tie.Need-loop-holds Inv-loop μ-loop
-loop-holds c = ?
+unfolding marksOf
+loop-holds c = (omega arith, front-none (tab-length 16 _))
 
--- src/lib.rt:100:34
 mark-requires : tie.Need-mark-requires Inv-loop μ-loop
-mark-requires c κs = ?
+mark-requires c κs = (c .before .before .pre, c .loop-test .taken)
 
--- src/lib.rt:100:20
 cast-indicators : tie.Need-cast-indicators Inv-loop μ-loop
-cast-indicators c = ?
+cast-indicators c = search needs
 
--- src/lib.rt:100:9
 mul-indicators : tie.Need-mul-indicators Inv-loop μ-loop
-mul-indicators c = ?
+mul-indicators c = search needs
 
--- src/lib.rt:100:9
 array-set-from-indicators : tie.Need-array-set-from-indicators Inv-loop μ-loop
-array-set-from-indicators c = ?
+array-set-from-indicators c = search needs
 
--- src/lib.rt:101:9
 add-s : tie.Need-add-s Inv-loop μ-loop
-add-s c = ?
+add-s c = search needs
 
--- src/lib.rt:99:5
 loop-less : tie.Need-loop-less Inv-loop μ-loop
-loop-less c = ?
+loop-less c = search needs
 
--- src/lib.rt:99:5
 loop-again : tie.Need-loop-again Inv-loop μ-loop
-loop-again c = ?
+unfolding marksOf
+loop-again c =
+    let head = c .before .before in
+    let f = head .loop .inv .1 in
+    let l = front-length f in (
+      omega arith,
+      front-store (pos 0) f (omega arith) (toZ-ofZ {w = w32} (record { sfits = c .mark .ok }) ∙ c .mark .ensures ∙ sym (tab-at 16 _ (head .loop .s) (pos 0) (c .before .loop-test .taken))),
+    )
 
--- src/lib.rt:93:1
 returns : tie.Need-returns Inv-loop μ-loop
-returns c = ?
+returns c = front-all (c .before .loop .inv .1) (omega arith)
 
 pub marks-spec : {M : Type 1} → statement M
 marks-spec =

@@ -1,25 +1,32 @@
+-- `desk::to_aich` meets its contract.
+-- Assumes nothing.
+use Prim.Native.Nat.{_<_}
+use native.Mathlib.Omega.{arith}
+use borrow.Author.Tests.{lt-leb}
+use Rattle.run.specs.Verdicts.{unless, leaves}
+use Rattle.desk.specs.Rule.{toAich}
+use Rattle.desk.specs.Outcome.{timingVerdict}
 use borrow.Author.Needs.{needs}
 use Rattle.desk.proofs.to_aich.Statement.{statement}
 use Rattle.desk.proofs.to_aich.Tie as tie
-use Rattle.desk.proofs.to_aich.Reads as reads
-use Rattle.desk.proofs.to_aich.Lts as lts
-use Rattle.desk.proofs.timing_verdict.Reads as timing-verdict-reads
 
--- src/lib.rt:137:9
 timing-verdict-requires : tie.Need-timing-verdict-requires
 timing-verdict-requires c κs = search needs
 
--- src/lib.rt:134:1
 returns : tie.Need-returns
-returns c = ?
+unfolding timingVerdict unless leaves toAich
+returns c = let e = c .before .timing-verdict .ensures in record { verdict-is = e; chips-is = rw (c .match .keys1) }
 
--- src/lib.rt:134:1
 returns-2 : tie.Need-returns-2
-returns-2 c = ?
+unfolding timingVerdict unless leaves toAich
+returns-2 c = let e = c .before .timing-verdict .ensures in record { verdict-is = e; chips-is = rw (c .match .keys2) }
 
--- src/lib.rt:134:1
 returns-3 : tie.Need-returns-3
-returns-3 c = ?
+unfolding timingVerdict unless leaves toAich
+returns-3 c =
+    let e = c .before .timing-verdict .ensures in
+    let above : 1 < c .before .before .args .timing = omega (arith, c .match .rest .0 .1, c .match .rest .1) in
+    record { verdict-is = e; chips-is = rw (lt-leb _ _ above) }
 
 pub to-aich-spec : {M : Type 1} → statement M
 to-aich-spec = tie.close (tie.spec timing-verdict-requires returns returns-2 returns-3)
