@@ -3,3 +3,5 @@ pub mod Circle
 pub mod Serving
 pub mod Round
 pub mod Slot
+pub mod Rows
+pub mod Exact

@@ -168,3 +168,37 @@ module _ (asks : ℕ → Bool) (last n : ℕ) (fits : last ≤ 15) where
         let most = count-bounded (placeOf last s) (suc (high .place)) at (λ p m t. let w = high .above p (omega arith) t in omega arith) in
         let moved = place-moved last fits (high .place) s h less in
         rw (high .is) (omega arith)
+
+  -- ---- the desk afterwards, by signatures
+
+  counted : count 16 (served asks last n) ≡ count 16 at
+  counted = all-places last fits (served asks last n) ∙ count-same 16 _ at (λ p h. served-at p h)
+
+  pub after-nobody : count 16 (served asks last n) ≡ 0 → lastServed asks last n 16 ≡ last
+  after-nobody none =
+      ⊎-elim
+      (λ high.
+      let some = count-some 16 (high .place) at (high .within) (high .one) in
+      let is = counted in
+      absurd (let z : ⊥ = omega arith in z))
+      (λ nobody. nobody .same)
+      (latest 16 (omega arith))
+
+  pub after-somebody : 0 < count 16 (served asks last n) → Highest 16 (lastServed asks last n 16)
+  after-somebody some =
+      ⊎-elim
+      (λ high. high)
+      (λ nobody.
+      let none = count-none 16 at (nobody .none) in
+      let is = counted in
+      absurd (let z : ⊥ = omega arith in z))
+      (latest 16 (omega arith))
+
+  pub highest-served : Highest 16 (lastServed asks last n 16) → served asks last n (lastServed asks last n 16) ≡ true
+  highest-served high = ap (served asks last n) (high .is) ∙ served-at (high .place) (high .within) ∙ high .one
+
+  pub highest-last : Highest 16 (lastServed asks last n 16) → (s : ℕ) → s < 16 → served asks last n s ≡ true → placeOf last s ≤ placeOf last (lastServed asks last n 16)
+  highest-last high s h e =
+      let l = high .above (placeOf last s) (place-small last s) (sym (served-is s h) ∙ e) in
+      let is = ap (placeOf last) (high .is) ∙ place-at last fits (high .place) (high .within) in
+      omega arith

@@ -122,7 +122,7 @@ marks-are asks last n fits some = tab-same 16 _ _ (λ s h. side s h (asks s) ref
   where
     side : (s : ℕ) → s < 16 → (b : Bool) → asks s ≡ b
         → cond b (cond (leb (placeOf last s) (placeOf last (lastAfter asks last n))) (pos 1) (negsuc 0)) (pos 0)
-          ≡ cond b (cond (ltb (ahead asks last s) n) (pos 1) (negsuc 0)) (pos 0)
+        ≡ cond b (cond (ltb (ahead asks last s) n) (pos 1) (negsuc 0)) (pos 0)
     side s h true e = rw (up-to asks last n fits s h e (somebody asks last n fits some s h e))
     side s h false e = refl
 
@@ -144,7 +144,7 @@ module _ (desk : Desk) (heard available n : ℕ) (values : List ℤ) where
         let asks = candidate heard available in
         let moved : after ≡ lastAfter asks (desk .last) n = rw (candidates-are heard available) at e in
         let is : marks ≡ indicatorsOf asks (desk .last) n =
-            rw (p, moved, candidates-are heard available) at m ∙ marks-are asks (desk .last) n (t .desk-ok) (t .n-low)
+        rw (p, moved, candidates-are heard available) at m ∙ marks-are asks (desk .last) n (t .desk-ok) (t .n-low)
         in
         let map-done : mapVerdict marks (length values) .number ≡ 0 = rw (is, t .values-ok) (number-0 (map-takes asks (desk .last) n)) in
         record {
