@@ -214,6 +214,6 @@ packs =
     record {
       serve-narrow = serve-narrow;
       timing-narrow = timing-narrow;
-      to-aich-small = λ timing answer p. rw (p .chips-is) (leaves-small (timingVerdict timing) _ 65536 (λ _. either-small (eqb timing 0) 7680 12800 (lit< tt) (lit< tt)) (lit< tt));
-      to-message-small = λ timing answer p. rw (p .chips-is) (leaves-small (timingVerdict timing) _ 65536 (λ _. either-small (eqb timing 0) 15360 20480 (lit< tt) (lit< tt)) (lit< tt));
+      to-aich-small = λ timing. leaves-small (timingVerdict timing) _ 65536 (λ _. either-small (eqb timing 0) 7680 12800 (lit< tt) (lit< tt)) (lit< tt);
+      to-message-small = λ timing. leaves-small (timingVerdict timing) _ 65536 (λ _. either-small (eqb timing 0) 15360 20480 (lit< tt) (lit< tt)) (lit< tt);
     }

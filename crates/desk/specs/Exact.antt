@@ -8,14 +8,14 @@ use mathlib.Core.Logic.{_⊎_}
 use lib.Dec.{ltb}
 use lib.ListN.{length, getD}
 use lib.IntN.{ℤ, pos, negsuc}
-use Rattle.run.specs.Verdicts.{done, Narrow}
+use Rattle.run.specs.Verdicts.{done, leaves, Narrow}
 use Rattle.whole.specs.Equal.{eqZ}
 use Rattle.aich.specs.Rule.{offers, valuesOf}
 use Rattle.aich.specs.Available.{GivesUnder}
 use Rattle.desk.specs.declared.Desk.{Desk}
 use Rattle.desk.specs.declared.Served.{Served}
 use Rattle.desk.specs.declared.Distance.{Distance}
-use Rattle.desk.specs.Rule.{candidate, count, placeOf, signatureAt, ahead, served, indicatorOf, indicatorsOf, lastAfter, freshLast}
+use Rattle.desk.specs.Rule.{candidate, count, placeOf, signatureAt, ahead, served, indicatorOf, indicatorsOf, lastAfter, freshLast, toAich, toMessage}
 use Rattle.desk.specs.Outcome.{Fresh, serveVerdict, Serve, timingVerdict, ToAich, ToMessage}
 
 -- signature s got this indicator
@@ -118,5 +118,5 @@ pub record DeskOnce : Type 0 where
 pub record Packs : Type 0 where
   pub serve-narrow : (last n valuesLength : ℕ) → Narrow (serveVerdict last n valuesLength)
   pub timing-narrow : (timing : ℕ) → Narrow (timingVerdict timing)
-  pub to-aich-small : (timing : ℕ) (answer : Distance) → ToAich timing answer → answer .chips < 65536
-  pub to-message-small : (timing : ℕ) (answer : Distance) → ToMessage timing answer → answer .chips < 65536
+  pub to-aich-small : (timing : ℕ) → leaves (timingVerdict timing) (toAich timing) 0 < 65536
+  pub to-message-small : (timing : ℕ) → leaves (timingVerdict timing) (toMessage timing) 0 < 65536
