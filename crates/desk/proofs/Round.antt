@@ -7,9 +7,9 @@ use native.Mathlib.Numerals.{add-one}
 use native.Mathlib.Omega.{arith}
 use borrow.Author.Tests.{lt-ltb, le-ltb}
 use lib.Dec.{ltb}
-use Rattle.desk.specs.Rule.{count, signatureAt, served, lastServed}
+use Rattle.desk.specs.Rule.{count, signatureAt, lastServed}
 use Rattle.desk.proofs.Count.{count-more, count-le}
-use Rattle.desk.proofs.Serving.{served-at}
+use Rattle.desk.proofs.Serving.{one-more}
 
 -- how many of those that ask were met, and who was served last
 pub record Round (asks : ℕ → Bool) (last n place met after : ℕ) : Type 0 where
@@ -35,10 +35,9 @@ module _ (asks : ℕ → Bool) (last n : ℕ) where
     more b e = rw (count-more place (λ (p : ℕ). asks (signatureAt last p)), e, r .met-is)
 
     moved : (b : Bool) → (asks (signatureAt last place) && ltb met n) ≡ b → cond b (signatureAt last place) after ≡ lastServed asks last n (place + 1)
-    unfolding lastServed
     moved b e =
-        let one : served asks last n (signatureAt last place) ≡ b = served-at asks last n fits place h ∙ rw (r .met-is) at e in
-        rw (add-one place, one, r .after-is)
+        let one : (asks (signatureAt last place) && ltb (count place (λ (p : ℕ). asks (signatureAt last p))) n) ≡ b = rw (r .met-is) at e in
+        rw (add-one place, one-more asks last n fits place h, one, r .after-is)
 
     pub round-silent : asks (signatureAt last place) ≡ false → Round asks last n (place + 1) met after
     round-silent e =

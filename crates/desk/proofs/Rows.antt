@@ -23,14 +23,14 @@ use Rattle.desk.proofs.Serving.{ahead-is, somebody, latest, after-small
 pub turns-enough : (n : ℕ) → 1 ≤ n → n ≤ 16 → 16 ≤ turns n * n
 unfolding firstBad turns
 turns-enough zero h l = absurd (let z : ⊥ = omega arith in z)
-turns-enough (suc m) h l = leb-true _ _ (every-by (λ (k : ℕ). leb 16 ((15 + suc k) / suc k * suc k)) 16 refl m (omega arith))
+turns-enough (suc m) h l = leb-true _ _ (every-by (λ (k : ℕ). leb 16 (turns (suc k) * suc k)) 16 refl m (omega arith))
 
 pub turns-needed : (n k : ℕ) → 1 ≤ n → n ≤ 16 → k + 1 < turns n → (k + 1) * n ≤ 15
 unfolding firstBad turns
 turns-needed zero k h l w = absurd (let z : ⊥ = omega arith in z)
 turns-needed (suc m) k h l w =
-    let most : ((15 + suc m) / suc m - 1) * suc m ≤ 15 = leb-true _ _ (every-by (λ (j : ℕ). leb (((15 + suc j) / suc j - 1) * suc j) 15) 16 refl m (omega arith)) in
-    let below : k + 1 ≤ (15 + suc m) / suc m - 1 = omega arith in
+    let most : (turns (suc m) - 1) * suc m ≤ 15 = leb-true _ _ (every-by (λ (j : ℕ). leb ((turns (suc j) - 1) * suc j) 15) 16 refl m (omega arith)) in
+    let below : k + 1 ≤ turns (suc m) - 1 = omega arith in
     let less = mul-le-mul-right (suc m) below in
     omega arith
 

@@ -99,11 +99,15 @@ module _ (asks : ℕ → Bool) (last n : ℕ) (fits : last ≤ 15) where
       inl (record { place = high .place; within = omega arith; is = high .is; one = high .one; above = next-above m (high .place) e (high .above) })
   step m after false e (inr none) = inr (record { same = none .same; none = next-none m e (none .none) })
 
+  -- the desk after one place more
+  pub one-more : (m : ℕ) → m < 16 → lastServed asks last n (suc m) ≡ cond (at m) (signatureAt last m) (lastServed asks last n m)
+  unfolding lastServed
+  one-more m h = ap (λ (b : Bool). cond b (signatureAt last m) (lastServed asks last n m)) (served-at m h)
+
   pub latest : (m : ℕ) → m ≤ 16 → Highest m (lastServed asks last n m) ⊎ Nobody m (lastServed asks last n m)
   unfolding lastServed Ends
   latest zero h = inr (record { same = refl; none = λ p l. absurd (let z : ⊥ = omega arith in z) })
-  latest (suc m) h =
-      rw (served-at m (omega arith)) (step m (lastServed asks last n m) (at m) refl (latest m (omega arith)))
+  latest (suc m) h = rw (one-more m (omega arith)) (step m (lastServed asks last n m) (at m) refl (latest m (omega arith)))
 
   -- the desk afterwards is a signature
   pub after-small : lastServed asks last n 16 ≤ 15
