@@ -1,0 +1,45 @@
+/* The random access desk: access slots in a row, of which each goes on from the desk that the one before it left, and a distance. */
+#include "aich.h"
+#include "draw.h"
+#include "row.h"
+#include "yardsticks.h"
+
+/* What is heard moves on from call to call, and so do the set and the desk. */
+struct desk_row {
+    size_t last, n, n_values, timing[SETS];
+    uint16_t heard[SETS], available[SETS];
+    int32_t values[VALUES + 1];
+};
+
+WAYS(desk_serve, desk_row, &r->last, r->heard[i % SETS], r->available[i % SETS], r->n, r->values, r->n_values)
+WAYS(desk_to_aich, desk_row, r->timing[i % SETS])
+WAYS(desk_to_message, desk_row, r->timing[i % SETS])
+
+static void draw_slots(void *context, size_t n) {
+    struct desk_row *r = context;
+    r->last = damaged_number(draw_below(SIGNATURES));
+    r->n = damaged_number(n);
+    r->n_values = damaged_length(VALUES);
+    for (size_t i = 0; i < SETS; i++) {
+        r->heard[i] = (uint16_t)draw_below(65536);
+        r->available[i] = (uint16_t)(draw_below(4) == 0 ? 65535 : draw_below(65536));
+    }
+}
+
+static void draw_timing(void *context, size_t choice) {
+    struct desk_row *r = context;
+    (void)choice;
+    for (size_t i = 0; i < SETS; i++) r->timing[i] = damaged_number(damaged_number(draw_below(2)));
+}
+
+static struct desk_row context;
+
+#define SERVE(N) {"desk serve, n " #N, &desk_serve, draw_slots, &context, sizeof context, N, VALUES * sizeof(int32_t)}
+#define DISTANCE(NAME, WAYS) {NAME, WAYS, draw_timing, &context, sizeof context, 0, 0}
+
+static const struct row ROWS[] = {SERVE(1), SERVE(4), SERVE(16), DISTANCE("desk to AICH", &desk_to_aich),
+                                  DISTANCE("desk to message", &desk_to_message)};
+
+void bench_desk(void) {
+    bench_rows(ROWS, sizeof ROWS / sizeof ROWS[0]);
+}
