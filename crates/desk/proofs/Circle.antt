@@ -1,7 +1,7 @@
 -- The circle of signatures: places and signatures are one to one, and what is counted by signatures is counted by places.
 -- Assumes nothing.
 use mathlib.Core.Path.{_≡_, refl, sym, ap, _∙_}
-use mathlib.Core.Bool.{Bool, true, false, cond, _&&_}
+use mathlib.Core.Bool.{Bool, true, false, _&&_, and-true, and-false}
 use Prim.Native.Nat.{ℕ, zero, suc, _+_, _-_, _≤_, _<_, min}
 use native.Mathlib.Numerals.{add-one}
 use native.Mathlib.Omega.{arith}
@@ -17,14 +17,6 @@ place-small last s = omega arith
 pub signature-small : (last p : ℕ) → signatureAt last p < 16
 unfolding signatureAt
 signature-small last p = omega arith
-
-and-false : (b : Bool) → (b && false) ≡ false
-and-false true = refl
-and-false false = refl
-
-and-true : (b : Bool) → (b && true) ≡ b
-and-true true = refl
-and-true false = refl
 
 module _ (last : ℕ) (fits : last ≤ 15) where
   pub place-at : (p : ℕ) → p < 16 → placeOf last (signatureAt last p) ≡ p

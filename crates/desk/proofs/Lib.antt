@@ -1,5 +1,6 @@
 pub mod Count
 pub mod Circle
+pub mod Digits
 pub mod Serving
 pub mod Round
 pub mod Slot

@@ -1,7 +1,7 @@
 -- What the mapper takes, and what a slot writes.
 -- Assumes nothing.
 use mathlib.Core.Path.{_≡_, refl, sym, ap, _∙_, fun-ext}
-use mathlib.Core.Bool.{Bool, true, false, cond, _&&_}
+use mathlib.Core.Bool.{Bool, true, false, cond, _&&_, and-false}
 use mathlib.Core.List.{List}
 use Prim.Native.Nat.{ℕ, zero, suc, _+_, _/_, _%_, _^_, _≤_, _<_, min}
 use native.Mathlib.Omega.{arith}
@@ -81,10 +81,6 @@ map-takes asks last n =
 outside : (heard available s : ℕ) → offers available s ≡ false → candidate heard available s ≡ false
 unfolding candidate
 outside heard available s e = rw e (and-false (offers heard s))
-  where
-    and-false : (b : Bool) → (b && false) ≡ false
-    and-false true = refl
-    and-false false = refl
 
 pub silent : (asks : ℕ → Bool) (last n s : ℕ) → s < 16 → asks s ≡ false → getD (indicatorsOf asks last n) s (pos 0) ≡ pos 0
 unfolding indicatorOf

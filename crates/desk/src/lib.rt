@@ -10,7 +10,7 @@ ghost use lib.Dec.{leb};
 ghost use Rattle.aich.specs.Rule.{offers};
 ghost use Rattle.desk.specs.Rule.{lastAfter};
 ghost use Rattle.desk.specs.Outcome.{Fresh, serveVerdict, Serve, timingVerdict, ToAich, ToMessage};
-ghost use Rattle.desk.specs.Method.{markOf, marksOf};
+ghost use Rattle.desk.specs.Method.{Turned, markOf, marksOf};
 
 // The signature served last.
 pub struct Desk {
@@ -54,25 +54,32 @@ fn serve_verdict(last: usize, n: usize, values_length: usize) -> Verdict
     or_else(unless(values_length == 32, refusal::LENGTH, 0), numbers)
 }
 
-// The last of the candidates that is served. The circle is gone round once, with no early way out, so that no branch depends on who was heard.
+// The candidates in circular order: bit p is the one at place p.
+fn turned(candidates: u16, last: usize) -> u32
+    requires { ⌜ last ≤ 15 ⌝ }
+    ensures { λ r. ⌜ Turned (offers candidates) last r ⌝ }
+{
+    let twice = 65536 * candidates as usize + candidates as usize;
+    ((twice >> (last + 1)) % 65536) as u32
+}
+
+// The last of the candidates that is served: from one to the next in circular order, n of them or as many as there are.
 fn last_served(candidates: u16, last: usize, n: usize) -> usize
     requires { ⌜ last ≤ 15 ⌝ }
     ensures { λ r. ⌜ r ≡ lastAfter (offers candidates) last n ⌝ }
 {
-    let mut after = last;
-    let mut ahead = 0;
+    let mut rest = turned(candidates, last);
     let mut place = 0;
-    while place < 16 {
-        let s = (last + 1 + place) % 16;
-        if (candidates as usize >> s) % 2 == 1 {
-            if ahead < n {
-                after = s;
-            }
-            ahead += 1;
+    let mut met = 0;
+    while met < n {
+        if rest == 0 {
+            return (last + place) % 16;
         }
-        place += 1;
+        place = u32::trailing_zeros(rest) as usize + 1;
+        rest = rest & (rest - 1);
+        met += 1;
     }
-    after
+    (last + place) % 16
 }
 
 // The indicator of signature s where candidates are served up to place q.

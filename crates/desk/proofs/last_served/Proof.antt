@@ -1,74 +1,60 @@
--- `desk::last_served` meets its contract: each turn looks at one place more of the circle.
+-- `desk::last_served` meets its contract: each turn goes on to the next candidate in circular order.
 -- Assumes nothing.
-use mathlib.Core.Path.{_≡_}
-use mathlib.Core.Bool.{true, false}
-use mathlib.Core.Logic.{⊎-elim}
-use Prim.Native.Nat.{ℕ, _-_, _/_, _%_, _^_, _≤_}
+use Prim.Native.Nat.{_-_, _≤_, _<_}
 use native.Mathlib.Omega.{arith}
-use borrow.Author.Tests.{eq-eqb, ne-eqb}
+use lib.Count.{trailing-le}
 use Rattle.aich.specs.Rule.{offers}
-use Rattle.desk.specs.Rule.{signatureAt}
-use Rattle.desk.proofs.Round.{Round, round-start, round-small, round-silent, round-served, round-refused}
+use Rattle.desk.proofs.Round.{Ring, ring-start, ring-next, ring-empty, ring-full}
 use Rattle.desk.proofs.last_served.Statement.{statement}
 use Rattle.desk.proofs.last_served.Tie as tie
 
-bit-set : (candidates s : ℕ) → candidates / 2 ^ s % 2 ≡ 1 → offers candidates s ≡ true
-unfolding offers
-bit-set candidates s h = eq-eqb _ _ h
-
-bit-clear : (candidates s : ℕ) → (candidates / 2 ^ s % 2 ≡ 1 → ⊥) → offers candidates s ≡ false
-unfolding offers
-bit-clear candidates s h = ne-eqb _ _ h
-
 abbrev Inv-loop : tie.InvT-loop
-Inv-loop candidates last n after₀ ahead₀ place₀ after ahead place = Round (offers candidates) last n place ahead after
+Inv-loop candidates last n rest₀ place₀ met₀ rest place met = Ring (offers candidates) last n place met rest
 
 abbrev μ-loop : tie.MeasureT-loop
-μ-loop candidates last n after₀ ahead₀ place₀ after ahead place = 16 - place
+μ-loop candidates last n rest₀ place₀ met₀ rest place met = n - met
+
+turned-requires : tie.Need-turned-requires Inv-loop μ-loop
+turned-requires c κs = c .pre
 
 loop-holds : tie.Need-loop-holds Inv-loop μ-loop
-loop-holds c = round-start _ _ _
+loop-holds c = ring-start (c .before .pre) (c .turned .ensures)
 
-add-s : tie.Need-add-s Inv-loop μ-loop
-add-s c = omega arith
+add-result : tie.Need-add-result Inv-loop μ-loop
+add-result c =
+    let fits : c .before .before .before .before .args .last ≤ 15 = c .before .before .before .before .pre in
+    let w = c .before .before .loop .inv .round .within in
+    omega arith
 
-add-s-2 : tie.Need-add-s-2 Inv-loop μ-loop
-add-s-2 c = omega arith
+returns : tie.Need-returns Inv-loop μ-loop
+returns c = ring-empty (c .before .before .before .before .pre) (c .before .before .loop .inv) (c .if1 .taken)
 
-shr-if1 : tie.Need-shr-if1 Inv-loop μ-loop
-shr-if1 c = omega arith
-
-add-ahead : tie.Need-add-ahead Inv-loop μ-loop
-add-ahead c = let small = round-small _ _ _ (c .before .before .before .loop .inv) in omega arith
+cast-place : tie.Need-cast-place Inv-loop μ-loop
+cast-place c = let l = trailing-le 32 (c .before .before .loop .rest) in omega arith
 
 add-place : tie.Need-add-place Inv-loop μ-loop
-add-place c = omega arith
+add-place c = let l = trailing-le 32 (c .before .before .loop .rest) in omega arith
+
+sub-rest : tie.Need-sub-rest Inv-loop μ-loop
+sub-rest c = omega (arith, c .if1 .left)
+
+add-met : tie.Need-add-met Inv-loop μ-loop
+add-met c = omega arith
 
 loop-less : tie.Need-loop-less Inv-loop μ-loop
 loop-less c = omega arith
 
 loop-again : tie.Need-loop-again Inv-loop μ-loop
-unfolding signatureAt
-loop-again c =
-    let head = c .before .before in
-    let r = head .loop .inv in
-    let fits : head .before .args .last ≤ 15 = head .before .pre in
-    let test = c .before .loop-test .taken in
-    ⊎-elim
-    (λ w. ⊎-elim
-    (λ v. rw (w .2, v .1, w .3) (round-served _ _ _ fits r test (bit-set _ _ (w .0 .taken)) (v .0 .taken)))
-    (λ v. rw (w .2, v .1, w .3) (round-refused _ _ _ fits r test (bit-set _ _ (w .0 .taken)) (v .0 .left)))
-    (w .1 .came))
-    (λ w. rw (w .1, w .2) (round-silent _ _ _ fits r test (bit-clear _ _ (w .0 .left))))
-    (c .if1 .came)
+loop-again c = ring-next (c .before .before .before .before .pre) (c .before .before .loop .inv) (c .if1 .left) (c .before .loop-test .taken)
 
-returns : tie.Need-returns Inv-loop μ-loop
-returns c =
-    let r = c .before .loop .inv in
-    let w = r .within in
-    let l = c .loop-test .left in
-    let e : c .before .loop .place ≡ 16 = omega arith in
-    rw e at (r .after-is)
+add-result-2 : tie.Need-add-result-2 Inv-loop μ-loop
+add-result-2 c =
+    let fits : c .before .before .before .args .last ≤ 15 = c .before .before .before .pre in
+    let w = c .before .loop .inv .round .within in
+    omega arith
+
+returns-2 : tie.Need-returns-2 Inv-loop μ-loop
+returns-2 c = ring-full (c .before .before .before .pre) (c .before .loop .inv) (c .loop-test .left)
 
 pub last-served-spec : {M : Type 1} → statement M
 last-served-spec =
@@ -76,12 +62,15 @@ last-served-spec =
     (tie.spec
     Inv-loop
     μ-loop
+    turned-requires
     loop-holds
-    add-s
-    add-s-2
-    shr-if1
-    add-ahead
+    add-result
+    returns
+    cast-place
     add-place
+    sub-rest
+    add-met
     loop-less
     loop-again
-    returns)
+    add-result-2
+    returns-2)
