@@ -1,4 +1,4 @@
-/* The random access desk: access slots in a row, of which each goes on from the desk that the one before it left, and a distance. */
+/* The random access desk: access slots in a row, each with the desk that the one before it left, and the distances. */
 #include "aich.h"
 #include "draw.h"
 #include "row.h"

@@ -135,10 +135,11 @@ uint64_t slt_aich_read_available(uint16_t available, const int32_t *values, size
 
 /* The random access desk (TS 25.211, 5.3.3.7 and 7.3): who is answered in an access slot, and how many chips later.
  *
- * A desk is one number, the signature that was served last; a fresh one is SLT_DESK_FRESH. Both sets have bit s for signature s. Signatures that
- * are heard and available get +1, up to n of them (1 to 16) in circular order from just after *last, and -1 behind those; all others get 0.
- * values are the 32 AICH values of these indicators. Where somebody is served, *last becomes the last one; else, and where the call is
- * refused, it stays. last is not NULL, is aligned as a size_t is, is read and written by nobody else during the call, and lies outside values. */
+ * A desk is one number, the signature that was served last; a fresh one is SLT_DESK_FRESH. Both sets have bit s for signature s.
+ * Signatures that are heard and available get +1, up to n of them (1 to 16) in circular order from just after *last, and -1 behind
+ * those; all others get 0. The values are those of these indicators. Where somebody is served, *last becomes the last one; else,
+ * and where the call is refused, it stays. last is not NULL, is aligned for a size_t, points outside the values, and is read and
+ * written by nobody else during the call. */
 #define SLT_DESK_FRESH 15u
 uint64_t slt_desk_serve(size_t *last, uint16_t heard, uint16_t available, size_t n, int32_t *values, size_t n_values);
 

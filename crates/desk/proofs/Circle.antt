@@ -2,8 +2,7 @@
 -- Assumes nothing.
 use mathlib.Core.Path.{_≡_, refl, sym, ap, _∙_}
 use mathlib.Core.Bool.{Bool, true, false, _&&_, and-true, and-false}
-use Prim.Native.Nat.{ℕ, zero, suc, _+_, _-_, _≤_, _<_, min}
-use native.Mathlib.Numerals.{add-one}
+use Prim.Native.Nat.{ℕ, zero, suc, _+_, _-_, _≤_, _<_}
 use native.Mathlib.Omega.{arith}
 use borrow.Author.Tests.{ltb-true, ltb-false, lt-ltb, le-ltb}
 use lib.Dec.{ltb}
@@ -26,11 +25,6 @@ module _ (last : ℕ) (fits : last ≤ 15) where
   pub at-place : (s : ℕ) → s < 16 → signatureAt last (placeOf last s) ≡ s
   unfolding placeOf signatureAt
   at-place s h = omega arith
-
-  -- the last one served stands last, and only it
-  pub last-place : placeOf last last ≡ 15
-  unfolding placeOf
-  last-place = omega arith
 
   -- where the desk moves on to a place before that of s, s stands nearer by as many places
   pub place-moved : (q s : ℕ) → s < 16 → q < placeOf last s → placeOf (signatureAt last q) s + (q + 1) ≡ placeOf last s

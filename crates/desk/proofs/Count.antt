@@ -67,16 +67,6 @@ count-some n k f h e =
     let grows = count-grows (k + 1) n f (omega arith) in
     omega arith
 
--- .. and where some are counted, one passes
-pub some-counted : (n : ℕ) (f : ℕ → Bool) → 0 < count n f → (k : ℕ) × (k < n) × (f k ≡ true)
-unfolding count
-some-counted zero f h = absurd (let z : ⊥ = omega arith in z)
-some-counted (suc n) f h = side (f n) refl h (some-counted n f)
-  where
-    side : (b : Bool) → f n ≡ b → 0 < count n f + cond b 1 0 → (0 < count n f → (k : ℕ) × (k < n) × (f k ≡ true)) → (k : ℕ) × (k < suc n) × (f k ≡ true)
-    side true e l rest = (n, omega arith, e)
-    side false e l rest = let found = rest (omega arith) in (found .0, (let m = found .1 in omega arith), found .2)
-
 -- tests that agree but at t, where the first fails
 pub count-point : (n t : ℕ) (f g : ℕ → Bool) → t < n → f t ≡ false → ((k : ℕ) → k < n → (k ≡ t → ⊥) → f k ≡ g k) → count n g ≡ count n f + cond (g t) 1 0
 unfolding count

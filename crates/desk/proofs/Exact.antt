@@ -4,14 +4,14 @@ use mathlib.Core.Path.{_≡_, refl, sym, ap, _∙_}
 use mathlib.Core.Bool.{Bool, true, false, cond, _&&_, not}
 use mathlib.Core.List.{List}
 use mathlib.Core.Logic.{_⊎_, inl, inr}
-use Prim.Native.Nat.{ℕ, zero, suc, _+_, _*_, _≤_, _<_, min}
+use Prim.Native.Nat.{ℕ, zero, suc, _+_, _≤_, _<_}
 use native.Mathlib.Numerals.{add-one}
 use native.Mathlib.Omega.{arith}
 use borrow.Author.Tests.{ltb-true, ltb-false, le-ltb, not-true, not-false}
 use lib.Dec.{eqb, ltb, lit<}
-use lib.ListN.{length, getD}
+use lib.ListN.{length}
 use lib.IntN.{ℤ, pos, negsuc}
-use Rattle.run.specs.First.{firstBad, Every}
+use Rattle.run.specs.First.{firstBad}
 use Rattle.run.specs.Verdicts.{done, Narrow}
 use Rattle.run.proofs.First.{first-fails, none-first}
 use Rattle.run.proofs.Chain.{check-narrow, unless-narrow, leaves-done, leaves-small, number-0, one-outcome}
@@ -20,13 +20,13 @@ use Rattle.whole.proofs.Equal.{eqZ-true, eq-eqZ}
 use Rattle.aich.specs.Rule.{offers, valuesOf}
 use Rattle.desk.specs.declared.Desk.{Desk}
 use Rattle.desk.specs.declared.Served.{Served}
-use Rattle.desk.specs.Rule.{candidate, count, placeOf, signatureAt, ahead, served, indicatorOf, indicatorsOf, lastAfter, freshLast, toAich, toMessage}
+use Rattle.desk.specs.Rule.{candidate, placeOf, ahead, served, indicatorOf, indicatorsOf, lastAfter, freshLast, toAich, toMessage}
 use Rattle.desk.specs.Outcome.{serveVerdict, Serve, timingVerdict}
 use Rattle.desk.specs.Exact.{Gets, gotOne, SlotFair, DeskMoves, Circle, MapperTakes, deskAt, turns, ServedIn, Fairness, Tight, RowIs, CallsRow, DeskOnce, Packs}
 use Rattle.desk.proofs.Count.{count-same, count-some}
 use Rattle.desk.proofs.Circle.{place-at, at-place}
 use Rattle.desk.proofs.Serving.{served-all, served-before, after-small, after-nobody, after-somebody, highest-served, highest-last}
-use Rattle.desk.proofs.Slot.{Taken, takes, indicator-at, silent, map-available-takes}
+use Rattle.desk.proofs.Slot.{takes, indicator-at, silent, map-available-takes}
 use Rattle.desk.proofs.Rows.{turns-enough, turns-needed, desk-small, waits, all-behind}
 
 -- ---- the indicator of a signature, by the two tests that decide it

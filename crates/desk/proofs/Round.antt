@@ -5,7 +5,7 @@ use mathlib.Core.Bool.{Bool, true, false, cond, not, _&&_, and-true, and-false}
 use Prim.Native.Nat.{ℕ, zero, suc, _+_, _-_, _%_, _≤_, _<_}
 use native.Mathlib.Numerals.{add-one}
 use native.Mathlib.Omega.{arith}
-use borrow.Author.Tests.{eqb-true, eqb-false, eq-eqb, ne-eqb, leb-true, ltb-true, ltb-false, lt-ltb, le-ltb, le-leb, lt-leb}
+use borrow.Author.Tests.{eqb-true, eqb-false, leb-true, ltb-true, ltb-false, lt-ltb, le-ltb, le-leb, lt-leb}
 use lib.Bits.{bitAnd, and-le-l}
 use lib.Count.{trailingZeros}
 use lib.Dec.{eqb, ltb, leb}
@@ -14,7 +14,7 @@ use Rattle.aich.specs.Rule.{offers}
 use Rattle.desk.specs.Rule.{count, signatureAt, lastServed}
 use Rattle.desk.specs.Method.{Turned}
 use Rattle.desk.proofs.Digits.{lowest-small, lowest-set, below-lowest, without-lowest, none-set}
-use Rattle.desk.proofs.Count.{count-more, count-le}
+use Rattle.desk.proofs.Count.{count-more}
 use Rattle.desk.proofs.Serving.{one-more}
 
 -- how many of those that ask were met, and who was served last
@@ -27,14 +27,6 @@ module _ (asks : ℕ → Bool) (last n : ℕ) where
   pub round-start : Round asks last n 0 0 last
   unfolding count lastServed
   round-start = record { within = omega arith; met-is = refl; after-is = refl }
-
-  -- no more were met than places
-  pub round-small : {place met after : ℕ} → Round asks last n place met after → met ≤ 16
-  round-small {place} r =
-      let is = r .met-is in
-      let most = count-le place (λ (p : ℕ). asks (signatureAt last p)) in
-      let w = r .within in
-      omega arith
 
   module _ (fits : last ≤ 15) {place met after : ℕ} (r : Round asks last n place met after) (h : place < 16) where
     more : (b : Bool) → asks (signatureAt last place) ≡ b → met + cond b 1 0 ≡ count (place + 1) (λ (p : ℕ). asks (signatureAt last p))

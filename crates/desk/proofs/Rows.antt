@@ -1,22 +1,21 @@
 -- Access slots in a row: how near an unserved signature comes, and the sequence in which one waits longest.
 -- Assumes nothing.
-use mathlib.Core.Path.{_≡_, refl, sym, ap, _∙_}
-use mathlib.Core.Bool.{Bool, true, false, cond, _&&_, not}
-use Prim.Native.Nat.{ℕ, zero, suc, _+_, _-_, _*_, _/_, _%_, _≤_, _<_, min}
+use mathlib.Core.Path.{_≡_, refl, _∙_}
+use mathlib.Core.Bool.{Bool, true, _&&_, not}
+use Prim.Native.Nat.{ℕ, zero, suc, _+_, _-_, _*_, _/_, _%_, _≤_, _<_}
 use native.Mathlib.Numerals.{add-one}
 use native.Mathlib.Nat.{suc-mul, mul-le-mul-right}
 use native.Mathlib.Omega.{arith}
-use borrow.Author.Tests.{leb-true, ltb-true, ltb-false, lt-ltb}
+use borrow.Author.Tests.{leb-true, ltb-true, lt-ltb}
 use lib.Dec.{ltb, leb}
-use Rattle.run.specs.First.{firstBad, Every}
+use Rattle.run.specs.First.{firstBad}
 use Rattle.run.proofs.First.{every-by}
 use Rattle.run.proofs.Bools.{and-right}
 use Rattle.aich.specs.Rule.{offers}
-use Rattle.desk.specs.Rule.{candidate, count, placeOf, signatureAt, ahead, lastServed, lastAfter, freshLast}
+use Rattle.desk.specs.Rule.{candidate, count, placeOf, signatureAt, ahead, lastAfter, freshLast}
 use Rattle.desk.specs.Exact.{deskAt, turns}
-use Rattle.desk.proofs.Count.{count-same}
-use Rattle.desk.proofs.Circle.{place-small, signature-small, at-place}
-use Rattle.desk.proofs.Serving.{ahead-is, somebody, latest, after-small, nearer, Highest}
+use Rattle.desk.proofs.Circle.{place-small, signature-small}
+use Rattle.desk.proofs.Serving.{ahead-is, somebody, after-small, nearer}
 
 -- ---- ⌈16/n⌉ for n from 1 to 16: one computed test for each bound
 

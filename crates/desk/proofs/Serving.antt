@@ -4,11 +4,10 @@ use mathlib.Core.Path.{_≡_, refl, sym, ap, _∙_}
 use mathlib.Core.Bool.{Bool, true, false, cond, _&&_, false≢true}
 use mathlib.Core.Logic.{_⊎_, inl, inr, ⊎-elim}
 use Prim.Native.Nat.{ℕ, zero, suc, _+_, _≤_, _<_, min}
-use native.Mathlib.Numerals.{add-one}
 use native.Mathlib.Omega.{arith}
-use borrow.Author.Tests.{eqb-true, eqb-false, ltb-true, ltb-false, lt-ltb, le-ltb, le-leb, lt-leb}
+use borrow.Author.Tests.{eqb-true, eqb-false, ltb-true, ltb-false, lt-ltb, le-leb, lt-leb}
 use lib.Dec.{eqb, ltb, leb}
-use Rattle.run.proofs.Bools.{and-left, and-right}
+use Rattle.run.proofs.Bools.{and-right}
 use Rattle.desk.specs.Rule.{count, placeOf, signatureAt, ahead, served, lastServed}
 use Rattle.desk.proofs.Count.{count-same, count-grows, count-bounded, count-some, count-none}
 use Rattle.desk.proofs.Circle.{place-small, signature-small, place-at, at-place, by-places, all-places, place-moved}

@@ -3,7 +3,7 @@
 use mathlib.Core.Path.{_≡_, refl, sym, ap, _∙_, fun-ext}
 use mathlib.Core.Bool.{Bool, true, false, cond, _&&_, and-false}
 use mathlib.Core.List.{List}
-use Prim.Native.Nat.{ℕ, zero, suc, _+_, _/_, _%_, _^_, _≤_, _<_, min}
+use Prim.Native.Nat.{ℕ, _/_, _%_, _^_, _≤_, _<_}
 use native.Mathlib.Omega.{arith}
 use borrow.Author.Tests.{eqb-true, eqb-false, eq-eqb, ne-eqb, le-leb, leb-true}
 use lib.Bits.{bitAnd, and-shr, and-step}
@@ -12,7 +12,7 @@ use lib.ListN.{length, getD}
 use lib.IntN.{ℤ, pos, negsuc}
 use Rattle.run.specs.declared.Verdict.{Verdict}
 use Rattle.run.specs.Verdicts.{done}
-use Rattle.run.specs.Ranges.{inRange, between}
+use Rattle.run.specs.Ranges.{between}
 use Rattle.run.proofs.Bools.{and-left, and-right}
 use Rattle.run.proofs.Chain.{or-else-done, or-else-pass, unless-done, unless-pass, each-pass, leaves-done, leaves-refused, number-0}
 use Rattle.run.proofs.Table.{tab-length, tab-at, tab-same}

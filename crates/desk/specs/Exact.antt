@@ -15,7 +15,7 @@ use Rattle.aich.specs.Available.{GivesUnder}
 use Rattle.desk.specs.declared.Desk.{Desk}
 use Rattle.desk.specs.declared.Served.{Served}
 use Rattle.desk.specs.declared.Distance.{Distance}
-use Rattle.desk.specs.Rule.{candidate, count, placeOf, signatureAt, ahead, served, indicatorOf, indicatorsOf, lastAfter, freshLast, toAich, toMessage}
+use Rattle.desk.specs.Rule.{candidate, count, placeOf, signatureAt, indicatorsOf, lastAfter, freshLast, toAich, toMessage}
 use Rattle.desk.specs.Outcome.{Fresh, serveVerdict, Serve, timingVerdict, ToAich, ToMessage}
 
 -- signature s got this indicator

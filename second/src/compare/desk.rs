@@ -57,7 +57,10 @@ fn serve(judge: &mut Judge, last: usize, given: Given, room: Option<usize>) -> (
     let values = expected.as_ref().ok().map(|(values, _)| values.as_slice());
     judge.compare(
         "slt_desk_serve",
-        || format!("desk {last}, heard {heard:#06x}, available {available:#06x}, n {n}, values {}", room_in_words(room)),
+        || {
+            let values = room_in_words(room);
+            format!("desk {last}, heard {heard:#06x}, available {available:#06x}, n {n}, values {values}")
+        },
         Answer::of(&expected),
         got,
         [lent_last.after("desk", after.as_ref().map(|one| &one[..])), lent_values.after("values", values)],
@@ -127,7 +130,8 @@ fn random_sequences(judge: &mut Judge) {
 /// What is heard beside the signature that waits: it is told the desk and n.
 type Others = fn(&mut Random, usize, usize) -> u16;
 
-/// Who else can be heard: nobody, everybody, anybody, and just the n that stand next, so that the desk moves as little as it can.
+/// Who else can be heard: nobody, everybody, anybody, and just the n that stand next, so that the desk moves as little
+/// as it can.
 const OTHERS: [Others; 4] = [
     |_, _, _| 0,
     |_, _, _| ALL,
@@ -135,8 +139,16 @@ const OTHERS: [Others; 4] = [
     |_, last, n| (1..=n).map(|step| 1u16 << ((last + step) % SIGNATURES)).sum(),
 ];
 
+/// What does not change in a sequence.
+#[derive(Clone, Copy)]
+struct Kept {
+    available: u16,
+    n: usize,
+}
+
 /// How many slots a signature that is heard in each of them waits for +1, as the library's values say.
-fn wait(judge: &mut Judge, random: &mut Random, start: usize, s: usize, available: u16, n: usize, others: Others) -> usize {
+fn wait(judge: &mut Judge, random: &mut Random, start: usize, s: usize, kept: Kept, others: Others) -> usize {
+    let Kept { available, n } = kept;
     let mut last = start;
     for slot in 1..=rules::longest_wait(n) {
         let heard = others(random, last, n) | 1 << s;
@@ -160,7 +172,8 @@ fn waits(judge: &mut Judge) {
             for start in 0..SIGNATURES {
                 for s in 0..SIGNATURES {
                     for available in [ALL, random.next() as u16 | 1 << s, random.next() as u16 | 1 << s] {
-                        longest = longest.max(wait(judge, &mut random, start, s, available, n, others));
+                        let kept = Kept { available, n };
+                        longest = longest.max(wait(judge, &mut random, start, s, kept, others));
                     }
                 }
             }
@@ -194,7 +207,8 @@ fn distances(judge: &mut Judge) {
             Ok(chips) => Answer::done(chips as u16),
             Err(refusal) => Answer::refused(refusal),
         };
-        judge.compare("slt_desk_to_aich", inputs, distance(rules::to_aich(timing)), ffi::desk_to_aich(timing), []);
-        judge.compare("slt_desk_to_message", inputs, distance(rules::to_message(timing)), ffi::desk_to_message(timing), []);
+        let (to_aich, to_message) = (distance(rules::to_aich(timing)), distance(rules::to_message(timing)));
+        judge.compare("slt_desk_to_aich", inputs, to_aich, ffi::desk_to_aich(timing), []);
+        judge.compare("slt_desk_to_message", inputs, to_message, ffi::desk_to_message(timing), []);
     }
 }

@@ -84,10 +84,10 @@ mod tests {
         let heard = 0x4224;
         let first = slot(FRESH, heard, 0xffff, 2);
         assert_eq!(first.last, 5);
-        assert_eq!((first.indicators[2], first.indicators[5], first.indicators[9], first.indicators[14]), (1, 1, -1, -1));
+        assert_eq!([2, 5, 9, 14].map(|s| first.indicators[s]), [1, 1, -1, -1]);
         let second = slot(first.last, 0x4204, 0xffff, 2);
         assert_eq!(second.last, 14);
-        assert_eq!((second.indicators[2], second.indicators[9], second.indicators[14]), (-1, 1, 1));
+        assert_eq!([2, 9, 14].map(|s| second.indicators[s]), [-1, 1, 1]);
         let third = slot(second.last, 0x0004, 0xfffb, 2);
         assert_eq!((third.last, third.indicators), (14, vec![0; 16]));
     }

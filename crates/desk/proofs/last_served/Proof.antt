@@ -1,6 +1,6 @@
 -- `desk::last_served` meets its contract: each turn goes on to the next candidate in circular order.
 -- Assumes nothing.
-use Prim.Native.Nat.{_-_, _≤_, _<_}
+use Prim.Native.Nat.{_-_, _≤_}
 use native.Mathlib.Omega.{arith}
 use lib.Count.{trailing-le}
 use Rattle.aich.specs.Rule.{offers}

@@ -1,7 +1,7 @@
 -- `desk::marks` meets its contract: each turn stores the indicator of one signature more.
 -- Assumes nothing.
-use mathlib.Core.Path.{_≡_, sym, _∙_}
-use Prim.Native.Nat.{ℕ, _-_, _≤_, _<_}
+use mathlib.Core.Path.{sym, _∙_}
+use Prim.Native.Nat.{_-_, _≤_}
 use native.Mathlib.Omega.{arith}
 use mir.Syntax.{w32}
 use mir.Facts.{toZ-ofZ}
@@ -9,7 +9,7 @@ use lib.IntN.{pos}
 use Rattle.run.proofs.Front.{Front, front-none, front-length, front-store, front-all}
 use Rattle.run.proofs.Table.{tab-length, tab-at}
 use Rattle.aich.specs.Rule.{offers}
-use Rattle.desk.specs.Method.{markOf, marksOf}
+use Rattle.desk.specs.Method.{marksOf}
 use borrow.Author.Needs.{needs}
 use Rattle.desk.proofs.marks.Statement.{statement}
 use Rattle.desk.proofs.marks.Tie as tie

@@ -1,10 +1,9 @@
 -- `desk::serve` meets its contract.
 -- Assumes nothing.
-use mathlib.Core.Path.{_≡_, refl}
+use mathlib.Core.Path.{refl}
 use Prim.Native.Nat.{_≤_, _<_}
 use native.Mathlib.Omega.{arith}
 use lib.Bits.{and-le-l}
-use Rattle.aich.specs.Rule.{offers}
 use Rattle.desk.specs.Rule.{placeOf}
 use Rattle.desk.proofs.Serving.{after-small}
 use Rattle.desk.proofs.Slot.{taken, serve-refused, serve-done}

@@ -6,7 +6,8 @@ use second::rules::desk;
 
 fn serve(name: &str, last: usize, heard: u16, available: u16, n: usize, n_values: usize) -> Case {
     let outcome = desk::serve(last, heard, available, n, n_values);
-    let line = Line::new(name, "desk serve").key("last", last).key("heard", heard).key("available", available).key("n", n);
+    let line = Line::new(name, "desk serve").key("last", last).key("heard", heard);
+    let line = line.key("available", available).key("n", n);
     let after = outcome.as_ref().map_or(last, |(_, after)| *after);
     let values = outcome.map(|(values, _)| values);
     line.gives("last", after).lent("values", far(n_values), numbers(&left(&values, n_values, FAR))).answered(&values)
