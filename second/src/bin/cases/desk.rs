@@ -30,14 +30,14 @@ fn slots() -> Vec<Case> {
         serve("done", 5, 0x4204, 0xffff, 2, 32),
         serve("done", 14, 0x0004, 0xfffb, 2, 32),
         // the order starts after the last one served, which comes last
-        serve("slip", 5, 0x0060, 0xffff, 1, 32),
-        serve("slip", 5, 0x0020, 0xffff, 1, 32),
+        serve("done", 5, 0x0060, 0xffff, 1, 32),
+        serve("done", 5, 0x0020, 0xffff, 1, 32),
         // the last in the order is not the last in number
-        serve("slip", 12, 0x6003, 0xffff, 3, 32),
-        serve("slip", 9, 0xffff, 0xffff, 8, 32),
+        serve("done", 12, 0x6003, 0xffff, 3, 32),
+        serve("done", 9, 0xffff, 0xffff, 8, 32),
         // nobody is heard, nobody is available
-        serve("slip", 9, 0, 0xffff, 16, 32),
-        serve("slip", 9, 0xffff, 0, 16, 32),
+        serve("done", 9, 0, 0xffff, 16, 32),
+        serve("done", 9, 0xffff, 0, 16, 32),
         serve("done", 3, 0xffff, 0x8001, 1, 32),
         serve("done", 0, 0xffff, 0xffff, 16, 32),
     ]
