@@ -142,10 +142,12 @@ pub fn to_aich(timing: usize) -> Distance
     ensures { λ r. ⌜ ToAich timing r ⌝ }
 {
     let verdict = timing_verdict(timing);
+    if verdict.number != 0 {
+        return Distance { verdict, chips: 0 };
+    }
     let chips = match timing {
         0 => 7680,
-        1 => 12800,
-        _ => 0,
+        _ => 12800,
     };
     Distance { verdict, chips }
 }
@@ -155,10 +157,12 @@ pub fn to_message(timing: usize) -> Distance
     ensures { λ r. ⌜ ToMessage timing r ⌝ }
 {
     let verdict = timing_verdict(timing);
+    if verdict.number != 0 {
+        return Distance { verdict, chips: 0 };
+    }
     let chips = match timing {
         0 => 15360,
-        1 => 20480,
-        _ => 0,
+        _ => 20480,
     };
     Distance { verdict, chips }
 }
