@@ -1,7 +1,7 @@
 // The set of signatures that a cell offers: docs/RULES.md, 'AICH'; TS 25.211, 5.3.3.7.
 ghost use Prim.Native.Nat.{_<_};
 ghost use mathlib.Core.Path.{_≡_};
-ghost use mathlib.Core.Bool.{_||_};
+ghost use mathlib.Core.Bool.{_||_, cond};
 ghost use lib.ListN.{length};
 ghost use lib.IntN.{pos};
 ghost use Rattle.run.specs.First.{firstBad, all};
@@ -19,20 +19,28 @@ fn allowed(available: u16, s: usize, indicator: i32) -> bool
     (available as usize >> s) % 2 == 1
 }
 
-// Whether every signature may have its indicator. Those that may not are counted, and each indicator is read whether it matters or not: so the loop goes many signatures at a time.
+// The indicator of a signature that is not available, and 0 for one that is.
+fn stray(available: u16, s: usize, indicator: i32) -> i32
+    requires { ⌜ s < 16 ⌝ }
+    ensures { λ r. ⌜ r ≡ cond (offers available s) (pos 0) indicator ⌝ }
+{
+    if (available as u32 >> s) % 2 == 1 {
+        0
+    } else {
+        indicator
+    }
+}
+
+// Whether every signature may have its indicator. Those that may not are laid over each other bit by bit, which leaves 0 only where each is 0: so the loop goes four signatures at a time, where
+// a branch for each bit of the set would go one by one.
 fn none_stray(available: u16, indicators: &[i32]) -> bool
     requires { ⌜ length (now indicators) ≡ 16 ⌝ }
     ensures { λ r. ⌜ r ≡ all 16 (allows available (now (indicators .entry))) ⌝ }
 {
-    let mut strays = 0u32;
+    let mut strays = 0i32;
     let mut s = 0;
     while s < 16 {
-        let indicator = indicators[s];
-        if (available as usize >> s) % 2 == 0 {
-            if indicator != 0 {
-                strays += 1;
-            }
-        }
+        strays = strays | stray(available, s, indicators[s]);
         s += 1;
     }
     strays == 0
