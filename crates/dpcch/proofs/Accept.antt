@@ -1,22 +1,23 @@
 -- What is known of numbers, lengths and digits of a DPCCH slot and of a frame where no check refuses them.
 -- Assumes nothing.
 use mathlib.Core.Path.{_≡_}
-use mathlib.Core.Bool.{true}
+use mathlib.Core.Bool.{true, false, _&&_}
 use mathlib.Core.List.{List}
 use Prim.Native.Nat.{ℕ, _*_, _≤_, _<_}
-use borrow.Author.Tests.{eqb-true, leb-true, le-leb, eq-eqb}
-use lib.Dec.{lit<}
+use borrow.Author.Tests.{eqb-true, leb-true, le-leb, lt-leb, eq-eqb}
+use lib.Dec.{eqb, leb, lit<}
 use lib.ListN.{length, getD}
 use Rattle.run.specs.First.{Every, atMost, likeFirst, agree}
 use Rattle.run.specs.Parts.{part}
 use Rattle.run.specs.Verdicts.{done}
+use Rattle.run.proofs.Bools.{and-left, and-right}
 use Rattle.run.proofs.Chain.{or-else-done, unless-done, each-done, chain-done, or-else-pass, unless-pass, each-pass}
 use Rattle.dpch.specs.declared.Dpcch.{Dpcch}
 use Rattle.dpch.specs.Uplink.{dpcchFormat}
 use Rattle.dpch.specs.UplinkPilots.{dpcchPilot}
 use Rattle.dpch.proofs.Heads.{slot-headed, slot-head-pass, frame-headed, frame-head-pass}
 use Rattle.dpcch.specs.Rule.{tpcIn, pilotIn}
-use Rattle.dpcch.specs.Outcome.{mapHead, fieldsVerdict, mapVerdict, readHead, digitsVerdict, readVerdict, frameMapHead, frameMapVerdict, frameReadHead, frameReadVerdict}
+use Rattle.dpcch.specs.Outcome.{mapHead, sizesAre, fieldsVerdict, mapVerdict, readHead, digitsVerdict, readVerdict, frameMapHead, frameMapVerdict, frameReadHead, frameReadVerdict}
 use Rattle.dpcch.specs.Ready.{Ready, Room}
 use Rattle.dpcch.proofs.Laws.{sound-format}
 
@@ -114,6 +115,38 @@ unfolding frameReadHead
 frame-read-head-pass format frameLength tfciLength fbiLength commandsLength r =
     let f = r .fields in
     frame-head-pass 3 format _ (r .format-ok) (eq-eqb _ _ (r .frame-ok), (eq-eqb _ _ (f .tfci-ok), (eq-eqb _ _ (f .fbi-ok), (eq-eqb _ _ (f .commands-ok), tt))))
+
+-- all that writing a slot or taking its fields stands on, and back
+pub sizes-pass : (format tfciLength fbiLength slotLength : ℕ) → format ≤ 3 → Ready (dpcchFormat format) tfciLength fbiLength slotLength
+    → sizesAre format tfciLength fbiLength slotLength ≡ true
+unfolding sizesAre
+sizes-pass format tfciLength fbiLength slotLength h r = rw (le-leb _ _ h, eq-eqb _ _ (r .tfci-ok), eq-eqb _ _ (r .fbi-ok), eq-eqb _ _ (r .slot-ok))
+
+pub record Sized (format tfciLength fbiLength slotLength : ℕ) : Type 0 where
+  pub format-ok : format ≤ 3
+  pub ready : Ready (dpcchFormat format) tfciLength fbiLength slotLength
+
+pub sizes-ready : (format tfciLength fbiLength slotLength : ℕ) → sizesAre format tfciLength fbiLength slotLength ≡ true → Sized format tfciLength fbiLength slotLength
+unfolding sizesAre
+sizes-ready format tfciLength fbiLength slotLength e =
+    let f = dpcchFormat format in
+    let last = eqb fbiLength (f .fbi) && eqb slotLength (f .slot) in
+    let lengths = and-right (leb format 3) (eqb tfciLength (f .tfci) && last) e in
+    let later = and-right (eqb tfciLength (f .tfci)) last lengths in
+    record {
+      format-ok = leb-true _ _ (and-left (leb format 3) (eqb tfciLength (f .tfci) && last) e);
+      ready = record {
+        sound = sound-format format;
+        tfci-ok = eqb-true _ _ (and-left (eqb tfciLength (f .tfci)) last lengths);
+        fbi-ok = eqb-true _ _ (and-left (eqb fbiLength (f .fbi)) (eqb slotLength (f .slot)) later);
+        slot-ok = eqb-true _ _ (and-right (eqb fbiLength (f .fbi)) (eqb slotLength (f .slot)) later);
+      };
+    }
+
+-- .. where the format is none of the table
+pub sizes-past : (format tfciLength fbiLength slotLength : ℕ) → 3 < format → sizesAre format tfciLength fbiLength slotLength ≡ false
+unfolding sizesAre
+sizes-past format tfciLength fbiLength slotLength h = rw (lt-leb _ _ h)
 
 -- ---- command, TFCI and FBI
 pub record FieldsOk (tpc : ℕ) (tfci fbi : List ℕ) : Type 0 where

@@ -2,6 +2,7 @@
 -- Assumes nothing.
 use Prim.Native.Nat.{ℕ, _+_, _*_}
 use mathlib.Core.Path.{_≡_}
+use mathlib.Core.Bool.{Bool, cond, _&&_}
 use mathlib.Core.List.{List, [], _∷_}
 use lib.ListN.{length, getD}
 use lib.Dec.{eqb, leb}
@@ -44,10 +45,14 @@ pub record Map (format slot tpc : ℕ) (tfci fbi out : List ℕ) (answer : Verdi
   pub verdict-is : answer ≡ mapVerdict format slot tpc tfci fbi (length out)
   pub out-is : out-after ≡ leaves (mapVerdict format slot tpc tfci fbi (length out)) (slotOf (dpcchFormat format) slot tpc tfci fbi) out
 
--- the part that writes a slot with no look at its digits
-pub record Put (format slot tpc : ℕ) (tfci fbi out : List ℕ) (answer : Verdict) (out-after : List ℕ) : Type 0 where
-  pub verdict-is : answer ≡ mapHead format slot (length tfci) (length fbi) (length out)
-  pub out-is : out-after ≡ leaves (mapHead format slot (length tfci) (length fbi) (length out)) (slotOf (dpcchFormat format) slot tpc tfci fbi) out
+-- whether the table has the format, and TFCI, FBI and slot have its lengths
+unfoldable pub sizesAre : ℕ → ℕ → ℕ → ℕ → Bool
+sizesAre format tfciLength fbiLength slotLength =
+    leb format 3 && (eqb tfciLength (dpcchFormat format .tfci) && (eqb fbiLength (dpcchFormat format .fbi) && eqb slotLength (dpcchFormat format .slot)))
+
+-- the part that writes a slot with no look at its digits; where the lengths are others, nothing is written
+pub record Put (format slot tpc : ℕ) (tfci fbi out out-after : List ℕ) : Type 0 where
+  pub out-is : out-after ≡ cond (sizesAre format (length tfci) (length fbi) (length out)) (slotOf (dpcchFormat format) slot tpc tfci fbi) out
 
 -- read: 1, 2, 3 (slot, TFCI, FBI) ..
 unfoldable pub readHead : ℕ → ℕ → ℕ → ℕ → ℕ → Verdict
@@ -80,12 +85,11 @@ unfoldable pub partVerdict : ℕ → ℕ → List ℕ → ℕ → Verdict
 partVerdict format slot xs base =
     orElse (unless (eqb (length xs) (dpcchFormat format .slot)) lengthRefused 0) (digitsVerdict (dpcchFormat format) slot xs base)
 
--- the part that takes the fields out of a slot with no look at their digits
-pub record Take (format slot : ℕ) (xs tfci fbi : List ℕ) (answer : Command) (tfci-after fbi-after : List ℕ) : Type 0 where
-  pub verdict-is : answer .verdict ≡ readHead format slot (length xs) (length tfci) (length fbi)
-  pub command-is : answer .tpc ≡ leaves (readHead format slot (length xs) (length tfci) (length fbi)) (commandIn (dpcchFormat format) xs) 0
-  pub tfci-is : tfci-after ≡ leaves (readHead format slot (length xs) (length tfci) (length fbi)) (tfciIn (dpcchFormat format) xs) tfci
-  pub fbi-is : fbi-after ≡ leaves (readHead format slot (length xs) (length tfci) (length fbi)) (fbiIn (dpcchFormat format) xs) fbi
+-- the part that takes the fields out of a slot with no look at their digits, and answers the command; where the lengths are others, 0, and nothing is taken
+pub record Take (format : ℕ) (xs tfci fbi : List ℕ) (answer : ℕ) (tfci-after fbi-after : List ℕ) : Type 0 where
+  pub command-is : answer ≡ cond (sizesAre format (length tfci) (length fbi) (length xs)) (commandIn (dpcchFormat format) xs) 0
+  pub tfci-is : tfci-after ≡ cond (sizesAre format (length tfci) (length fbi) (length xs)) (tfciIn (dpcchFormat format) xs) tfci
+  pub fbi-is : fbi-after ≡ cond (sizesAre format (length tfci) (length fbi) (length xs)) (fbiIn (dpcchFormat format) xs) fbi
 
 -- ---- a frame
 

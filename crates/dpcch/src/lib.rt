@@ -3,8 +3,9 @@
 use dpch::Dpcch;
 use run::Verdict;
 ghost use mathlib.Core.Path.{_≡_};
+ghost use mathlib.Core.Bool.{_&&_};
 ghost use Rattle.dpch.specs.Uplink.{dpcchFormat};
-ghost use Rattle.dpcch.specs.Outcome.{mapHead};
+ghost use Rattle.dpcch.specs.Outcome.{mapHead, sizesAre};
 ghost use Rattle.dpcch.specs.Ready.{pilotRow, pilotStart};
 
 // The format of a number, a row of zeros where there is none. A match becomes a table in read-only memory.
@@ -127,4 +128,21 @@ pub fn map_head(
         fbi_length == f.fbi,
         out_length == f.slot,
     )
+}
+
+// Both hold.
+fn both(a: bool, b: bool) -> bool
+    ensures { λ r. ⌜ r ≡ (a && b) ⌝ }
+{
+    if a { b } else { false }
+}
+
+// Whether the table has the format, and TFCI, FBI and slot have its lengths: all that writing a slot or taking its fields stands on.
+pub fn sizes_are(format: usize, tfci_length: usize, fbi_length: usize, slot_length: usize) -> bool
+    ensures { λ r. ⌜ r ≡ sizesAre format «tfci_length» «fbi_length» «slot_length» ⌝ }
+{
+    let f = format_of(format);
+    let last = both(fbi_length == f.fbi, slot_length == f.slot);
+    let lengths = both(tfci_length == f.tfci, last);
+    both(format <= 3, lengths)
 }

@@ -1,9 +1,9 @@
 // One slot of the uplink DPCCH, written (rule, promises and theorems are those of the crate `dpcch`): docs/RULES.md, 'Uplink DPCCH'; TS 25.211, 5.2.1.1.
 use dpch::Dpcch;
-use run::Verdict;
 use write::copy;
 use write::fill;
 ghost use mathlib.Core.Path.{_≡_};
+ghost use Prim.Native.Nat.{_≤_};
 ghost use lib.ListN.{length};
 ghost use Rattle.run.specs.Written.{over};
 ghost use Rattle.dpcch.specs.Rule.{slotOf};
@@ -34,15 +34,34 @@ fn write(f: Dpcch, slot: usize, tpc: u8, tfci: &[u8], fbi: &[u8], out: &mut [u8]
     fill(&mut out[c..d], tpc);
 }
 
-// The slot of the fields with no look at their digits, or the refusal and `out` as it was.
-pub fn put(format: usize, slot: usize, tpc: u8, tfci: &[u8], fbi: &[u8], out: &mut [u8]) -> Verdict
-    ensures { λ r. ⌜ Put format slot tpc (now (tfci .entry)) (now (fbi .entry)) (now (out .entry)) r (now (out .exit)) ⌝ }
+// The slot of the fields with no look at their digits, where their lengths are the format's; else `out` as it was. A length that is asked for by itself is known to
+// the compiler from there on.
+fn put_as(format: usize, slot: usize, tpc: u8, tfci: &[u8], fbi: &[u8], out: &mut [u8])
+    requires { ⌜ format ≤ 3 ⌝ }
+    ensures { λ _. ⌜ Put format slot tpc (now (tfci .entry)) (now (fbi .entry)) (now (out .entry)) (now (out .exit)) ⌝ }
 {
-    let head = dpcch::map_head(format, slot, tfci.len(), fbi.len(), out.len());
-    if head.number != 0 {
-        return head;
-    }
     let f = dpcch::format_of(format);
+    if tfci.len() != f.tfci {
+        return;
+    }
+    if fbi.len() != f.fbi {
+        return;
+    }
+    if out.len() != f.slot {
+        return;
+    }
     write(f, slot, tpc, tfci, fbi, out);
-    head
+}
+
+// The same. Where the format is a number, so is the width of each field, and a slot is a few stores.
+pub fn put(format: usize, slot: usize, tpc: u8, tfci: &[u8], fbi: &[u8], out: &mut [u8])
+    ensures { λ _. ⌜ Put format slot tpc (now (tfci .entry)) (now (fbi .entry)) (now (out .entry)) (now (out .exit)) ⌝ }
+{
+    match format {
+        0 => put_as(0, slot, tpc, tfci, fbi, out),
+        1 => put_as(1, slot, tpc, tfci, fbi, out),
+        2 => put_as(2, slot, tpc, tfci, fbi, out),
+        3 => put_as(3, slot, tpc, tfci, fbi, out),
+        _ => {}
+    }
 }

@@ -1,6 +1,7 @@
 pub mod Formats
 pub mod Pilots
 pub mod Compressed
+pub mod SecondPilots
 pub mod Uplink
 pub mod UplinkPilots
 pub mod Layouts

@@ -3,7 +3,10 @@ use run::Verdict;
 use run::found;
 use run::refusal;
 ghost use mathlib.Core.Path.{_≡_};
+ghost use mathlib.Core.Bool.{true};
 ghost use Prim.Native.Nat.{_≤_};
+ghost use lib.ListN.{length};
+ghost use Rattle.run.specs.First.{Every, atMost};
 ghost use Rattle.dpch.specs.Uplink.{dpdchSize};
 ghost use Rattle.dpdch.specs.Outcome.{slotsVerdict, Carry, Map, Read, FrameMap, FrameRead};
 
@@ -23,6 +26,17 @@ fn size_of(format: usize) -> usize
     }
 }
 
+// Whether these are the digits of a slot or of a frame of format 0 and all of them bits. Short runs are worth a look whose length is a number.
+fn are_few_bits(s: &[u8]) -> bool
+    ensures { λ r. ⌜ (r ≡ true → Every (atMost 1 (now (s .entry))) (length (now (s .entry)))) ⌝ }
+{
+    match s.len() {
+        10 => scan::all_at_most(s, 1, 10),
+        150 => scan::all_at_most(s, 1, 150),
+        _ => false,
+    }
+}
+
 // The checks of so many slots.
 fn slots_verdict(slots: usize, format: usize, input: &[u8], out_length: usize) -> Verdict
     requires { ⌜ slots ≤ 15 ⌝ }
@@ -32,6 +46,12 @@ fn slots_verdict(slots: usize, format: usize, input: &[u8], out_length: usize) -
     let head = dpch::frame_head(6, format, input.len() == n, out_length == n, true, true);
     if head.number != 0 {
         return head;
+    }
+    if are_few_bits(input) {
+        return Verdict {
+            number: 0,
+            place: 0,
+        };
     }
     found(input, scan::first_above(input, 1), refusal::DIGIT, 0)
 }

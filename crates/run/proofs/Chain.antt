@@ -1,7 +1,7 @@
 -- Chains of checks: what is known where none refused, and when none does.
 -- Assumes nothing.
 use mathlib.Core.Path.{_≡_, refl, sym, ap, _∙_}
-use mathlib.Core.Bool.{Bool, true, false, cond}
+use mathlib.Core.Bool.{Bool, true, false, cond, _&&_}
 use mathlib.Core.List.{List, [], _∷_}
 use Prim.Native.Nat.{ℕ, zero, suc, _+_, _<_, suc-le-suc}
 use native.Mathlib.Nat.{zero-add, not-suc-le-zero, le-of-suc-le-suc}
@@ -255,3 +255,25 @@ leaves-small v value top small some = pick (eqb (v .number) 0) refl
 -- two outcomes that equal one definition are equal: so a promise by equations allows one outcome
 pub one-outcome : {A : Type 0} {x y z : A} → x ≡ z → y ≡ z → x ≡ y
 one-outcome p q = p ∙ sym q
+
+-- whether none of two checks refuses. The second is asked where the first holds
+pub both-fit-if : (v w : Verdict) {r a b : Bool} → r ≡ (a && b) → a ≡ eqb (v .number) 0 → (a ≡ true → b ≡ eqb (w .number) 0) → r ≡ eqb (orElse v w .number) 0
+unfolding orElse
+both-fit-if v w {r} {a} {b} e p q = e ∙ side a p q
+  where
+    side : (a : Bool) → a ≡ eqb (v .number) 0 → (a ≡ true → b ≡ eqb (w .number) 0) → (a && b) ≡ eqb (cond (eqb (v .number) 0) w v .number) 0
+    side true p q = q refl ∙ rw (sym p)
+    side false p q = rw (sym p) p
+
+pub both-fit : (v w : Verdict) {r a b : Bool} → r ≡ (a && b) → a ≡ eqb (v .number) 0 → b ≡ eqb (w .number) 0 → r ≡ eqb (orElse v w .number) 0
+both-fit v w e p q = both-fit-if v w e p (λ _. q)
+
+-- a check refuses where its test fails at some place
+unless-fits : (ok : Bool) (number place : ℕ) → 0 < number → ok ≡ eqb (unless ok number place .number) 0
+unfolding unless
+unless-fits true number place h = refl
+unless-fits false number place h = sym (ne-eqb number 0 (λ e. let z : ⊥ = omega arith in z))
+
+pub each-fits : (base number : ℕ) (ok : ℕ → Bool) (n : ℕ) {r : Bool} → 0 < number → r ≡ all n ok → r ≡ eqb (each base number ok n .number) 0
+unfolding each
+each-fits base number ok n h told = told ∙ unless-fits (all n ok) number _ h

@@ -2,7 +2,9 @@
 use run::DTX;
 use run::shorter;
 ghost use mathlib.Core.Path.{_≡_};
+ghost use mathlib.Core.Bool.{_&&_};
 ghost use Prim.Native.Nat.{_≤_, min};
+ghost use lib.Dec.{leb};
 ghost use lib.ListN.{length};
 ghost use Rattle.run.specs.First.{firstBad, all, Every, atMost, isAt, notAt, likeFirst, agree};
 
@@ -112,4 +114,35 @@ pub fn first_diff(s: &[u8], t: &[u8]) -> usize
         i += 1;
     }
     i
+}
+
+// Whether the run has n digits and none of its first n is above `top`. Where the caller names n the loop has a constant length.
+pub fn all_at_most(s: &[u8], top: u8, n: usize) -> bool
+    ensures { λ r. ⌜ r ≡ (leb n (length (now (s .entry))) && all n (atMost top (now (s .entry)))) ⌝ }
+{
+    if s.len() < n {
+        return false;
+    }
+    let mut good = true;
+    let mut k = 0;
+    while k < n {
+        if top < s[k] {
+            good = false;
+        }
+        k += 1;
+    }
+    good
+}
+
+// Whether two runs have n digits, and their first n are the same.
+pub fn same_front(s: &[u8], t: &[u8], n: usize) -> bool
+    ensures { λ r. ⌜ r ≡ (leb n (length (now (s .entry))) && (leb n (length (now (t .entry))) && all n (agree (now (s .entry)) (now (t .entry))))) ⌝ }
+{
+    if s.len() < n {
+        return false;
+    }
+    if t.len() < n {
+        return false;
+    }
+    all_agree(s, t, n)
 }

@@ -14,7 +14,7 @@ use Rattle.run.specs.First.{firstBad, all, isAt, likeFirst, agree}
 use Rattle.run.specs.Verdicts.{done, orElse, unless, each}
 use Rattle.run.specs.Fields.{joined, field, start}
 use Rattle.run.proofs.First.{first-is, first-same}
-use Rattle.run.proofs.Chain.{or-else-done, unless-done, or-else-pass, unless-pass}
+use Rattle.run.proofs.Chain.{or-else-done, unless-done, or-else-pass, unless-pass, each-fits}
 use Rattle.run.proofs.Fields.{field-lent}
 use Rattle.dpch.specs.declared.Format.{Format}
 use Rattle.dpch.specs.Formats.{kindB, widths}
@@ -133,31 +133,12 @@ pilot-width =
     (doubled-width 16 (λ a b c d. absurd (c refl)))
     (doubled-width 32 (λ a b c d. absurd (d refl)))
 
--- none of two checks refuses
-both-cases : (v w : Verdict) (b : Bool) → eqb (v .number) 0 ≡ b → (b && eqb (w .number) 0) ≡ eqb (cond b w v .number) 0
-both-cases v w true e = refl
-both-cases v w false e = sym e
-
-pub both-told : (v w : Verdict) {r a b : Bool} → r ≡ (a && b) → a ≡ eqb (v .number) 0 → b ≡ eqb (w .number) 0 → r ≡ eqb (orElse v w .number) 0
-unfolding orElse
-both-told v w e p q = e ∙ rw (p, q) (both-cases v w (eqb (v .number) 0) refl)
-
--- a check refuses where its test fails at some place
-unless-told : (ok : Bool) (number place : ℕ) → 0 < number → ok ≡ eqb (unless ok number place .number) 0
-unfolding unless
-unless-told true number place h = refl
-unless-told false number place h = sym (ne-eqb number 0 (λ e. let z : ⊥ = omega arith in z))
-
-pub each-told : (base number : ℕ) (ok : ℕ → Bool) (n : ℕ) {r : Bool} → 0 < number → r ≡ all n ok → r ≡ eqb (each base number ok n .number) 0
-unfolding each
-each-told base number ok n h told = told ∙ unless-told (all n ok) number _ h
-
 -- a check of field k as it is lent from a to e
 module _ (f : Format) (xs : List ℕ) (k a e : ℕ) (h : k < 5) (p : a ≡ start k (widths f)) (q : e ≡ a + getD (widths f) k 0) where
   pub field-told : (base number : ℕ) (ok : List ℕ → ℕ → Bool) {r : Bool} → 0 < number
       → r ≡ all (length (take (e - a) (drop a xs))) (ok (take (e - a) (drop a xs)))
       → r ≡ eqb (each base number (ok (field k (widths f) xs)) (length (field k (widths f) xs)) .number) 0
-  field-told base number ok some told = each-told base number _ _ some (rw (field-lent k a e (widths f) xs h p q) at told)
+  field-told base number ok some told = each-fits base number _ _ some (rw (field-lent k a e (widths f) xs h p q) at told)
 
   pub lent-long : Whole f (length xs) → length (take (e - a) (drop a xs)) ≡ getD (widths f) k 0
   lent-long w = ap length (field-lent k a e (widths f) xs h p q) ∙ field-long f xs w k h

@@ -1,38 +1,68 @@
--- `dpcch_put::put` meets its contract.
+-- `dpcch_put::put` meets its contract: each arm writes the format that it names.
 -- Assumes nothing.
-use mathlib.Core.Path.{sym, _∙_}
-use Rattle.run.proofs.Chain.{leaves-done, leaves-refused}
-use Rattle.dpcch.proofs.Accept.{map-headed}
+use Prim.Native.Nat.{_<_}
+use native.Mathlib.Omega.{arith}
 use borrow.Author.Needs.{needs}
+use Rattle.dpcch.proofs.Accept.{sizes-past}
 use Rattle.dpcch_put.proofs.put.Statement.{statement}
 use Rattle.dpcch_put.proofs.put.Tie as tie
 
-map-head-requires : tie.Need-map-head-requires
-map-head-requires c κs = search needs
+put-as-requires : tie.Need-put-as-requires
+put-as-requires c κs = search needs
 
-returns : tie.Need-returns
-returns c =
-    let e = c .before .before .map-head .ensures in
-    record { verdict-is = e; out-is = sym (leaves-refused _ _ _ (rw e at (c .if1 .taken))) }
+put-as-requires-2 : tie.Need-put-as-requires-2
+put-as-requires-2 c κs = search needs
 
-format-of-requires : tie.Need-format-of-requires
-format-of-requires c κs = search needs
+put-as-requires-3 : tie.Need-put-as-requires-3
+put-as-requires-3 c κs = search needs
 
-write-requires : tie.Need-write-requires
-write-requires c κs = rw (c .before .format-of .ensures) (map-headed _ _ _ _ _ (rw (c .before .before .before .before .map-head .ensures) at (c .before .before .if1 .left)) .ready)
+put-as-requires-4 : tie.Need-put-as-requires-4
+put-as-requires-4 c κs = search needs
 
 same-length : tie.Need-same-length
 same-length c = search needs
 
+returns : tie.Need-returns
+returns c = rw (c .before .before .before .before .match .keys1) (c .before .before .put-as .ensures)
+
+same-length-2 : tie.Need-same-length-2
+same-length-2 c = search needs
+
 returns-2 : tie.Need-returns-2
-returns-2 c =
-    let e = c .before .before .before .before .before .before .before .map-head .ensures in
-    record {
-      verdict-is = e;
-      out-is = c .before .before .write .ensures ∙ rw (c .before .before .before .before .format-of .ensures) (sym (leaves-done _ _ _ (rw e at (c .before .before .before .before .before .if1 .left))));
-    }
+returns-2 c = rw (c .before .before .before .before .match .keys2) (c .before .before .put-as2 .ensures)
+
+same-length-3 : tie.Need-same-length-3
+same-length-3 c = search needs
+
+returns-3 : tie.Need-returns-3
+returns-3 c = rw (c .before .before .before .before .match .keys3) (c .before .before .put-as3 .ensures)
+
+same-length-4 : tie.Need-same-length-4
+same-length-4 c = search needs
+
+returns-4 : tie.Need-returns-4
+returns-4 c = rw (c .before .before .before .before .match .keys4) (c .before .before .put-as4 .ensures)
+
+returns-5 : tie.Need-returns-5
+returns-5 c =
+    let none = c .match .rest in
+    let past : 3 < c .before .before .before .before .args .format = omega (arith, none .0 .0 .0 .1, none .0 .0 .1, none .0 .1, none .1) in
+    record { out-is = rw (sizes-past _ _ _ _ past) }
 
 pub put-spec : {M : Type 1} → statement M
 put-spec =
     tie.close
-    (tie.spec map-head-requires returns format-of-requires write-requires same-length returns-2)
+    (tie.spec
+    put-as-requires
+    put-as-requires-2
+    put-as-requires-3
+    put-as-requires-4
+    same-length
+    returns
+    same-length-2
+    returns-2
+    same-length-3
+    returns-3
+    same-length-4
+    returns-4
+    returns-5)
