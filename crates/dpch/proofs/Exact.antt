@@ -241,11 +241,11 @@ fields-doubled format h =
 at-each : (P : ℕ → Type 0) → P 0 → P 2 → P 4 → P 8 → P 16 → (format : ℕ) → P (formatOf format .pilot)
 unfolding formatIn
 at-each P p0 p2 p4 p8 p16 format =
-    at-rows (λ (k n : ℕ). k ≡ 0 → P n) (λ k e. ((λ _. p0), (λ _. p2), (λ _. p4), (λ _. p8), (λ _. p16))) (λ z. absurd (two z)) (λ z. absurd (two z)) (λ z. absurd (two z)) (λ z. absurd (two z))
-    0 format (normal-kind format)
+    at-rows (λ (k n : ℕ). k < 2 → P n) (λ k e. ((λ _. p0), (λ _. p2), (λ _. p4), (λ _. p8), (λ _. p16))) not-b not-b not-b not-b
+    0 format (rw (normal-kind format) (lit< tt))
   where
-    two : 2 ≡ 0 → ⊥
-    two z = let y : ⊥ = omega arith in y
+    not-b : {n : ℕ} → 2 < 2 → P n
+    not-b h = let z : ⊥ = omega arith in absurd z
 
 abbrev bit : ℕ → Bool
 bit x = leb x 1
