@@ -56,7 +56,9 @@ extern "C" {
 
 /* Of the calls under a set of available signatures. */
 #define SLT_REFUSED_SIGNATURE 26u /* a nonzero indicator of a signature that is not available; the place is the lowest */
-#define SLT_REFUSED_GAP 27u    /* a gap that leaves too few or too many slots of a compressed frame, or runs past slot 14 */
+
+/* Of compressed frames. */
+#define SLT_REFUSED_GAP 27u /* a gap that leaves too few or too many slots of a compressed frame, or runs past slot 14 */
 
 /* PICH (TS 25.211, 5.3.3.10). np is 18, 36, 72 or 144. */
 
