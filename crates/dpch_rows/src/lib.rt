@@ -112,39 +112,12 @@ pub fn format_in(kind: usize, n: usize) -> Format
 pub fn doubled_row(slot: usize) -> [u8; 32]
     ensures { λ r. ⌜ r ≡ pairsTwice (pilotRow slot) ⌝ }
 {
-    let r = dpch::pilot_row(0, slot);
-    [
-        r[0],
-        r[1],
-        r[0],
-        r[1],
-        r[2],
-        r[3],
-        r[2],
-        r[3],
-        r[4],
-        r[5],
-        r[4],
-        r[5],
-        r[6],
-        r[7],
-        r[6],
-        r[7],
-        r[8],
-        r[9],
-        r[8],
-        r[9],
-        r[10],
-        r[11],
-        r[10],
-        r[11],
-        r[12],
-        r[13],
-        r[12],
-        r[13],
-        r[14],
-        r[15],
-        r[14],
-        r[15],
-    ]
+    let row = dpch::pilot_row(0, slot);
+    let mut doubled = [0; 32];
+    let mut k = 0;
+    while k < 32 {
+        doubled[k] = row[k / 4 * 2 + k % 2];
+        k += 1;
+    }
+    doubled
 }

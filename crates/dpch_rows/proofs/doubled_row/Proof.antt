@@ -1,151 +1,83 @@
--- `dpch_rows::doubled_row` meets its contract: the digits of the row, taken in the order of the repetition.
+-- `dpch_rows::doubled_row` meets its contract: digit k is one of pair k / 4 of the row. One test compares all 32 places, whatever the row's digits are.
 -- Assumes nothing.
-use mathlib.Core.Path.{_∙_}
+use mathlib.Core.Path.{_≡_, refl, ap, _∙_}
+use mathlib.Core.List.{List}
+use Prim.Native.Nat.{ℕ, _+_, _-_, _*_, _/_, _%_, _≤_, _<_}
+use native.Mathlib.Omega.{arith}
+use borrow.Author.Needs.{needs}
+use lib.ListN.{length, getD, replicate}
 use Rattle.run.specs.Fields.{joined}
+use Rattle.run.specs.Table.{tab}
+use Rattle.run.proofs.Front.{Front, front-none, front-length, front-store, front-all}
+use Rattle.run.proofs.Table.{by-table}
 use Rattle.dpch.specs.Pilots.{symbolsOf, pilotRow}
 use Rattle.dpch.specs.Compressed.{pairsTwice}
-use borrow.Author.Needs.{needs}
 use Rattle.dpch_rows.proofs.doubled_row.Statement.{statement}
 use Rattle.dpch_rows.proofs.doubled_row.Tie as tie
 
-pilot-row-requires : tie.Need-pilot-row-requires
+digit-is : (slot k : ℕ) → k < 32 → getD (pilotRow slot) (k / 4 * 2 + k % 2) 0 ≡ getD (pairsTwice (pilotRow slot)) k 0
+unfolding tab pairsTwice pilotRow symbolsOf joined
+digit-is slot = by-table 0 32 (λ (k : ℕ). getD (pilotRow slot) (k / 4 * 2 + k % 2) 0) (λ (k : ℕ). getD (pairsTwice (pilotRow slot)) k 0) refl
+
+doubled-long : (slot : ℕ) → length (pairsTwice (pilotRow slot)) ≡ 32
+unfolding pairsTwice pilotRow symbolsOf joined
+doubled-long slot = refl
+
+abbrev Inv-loop : tie.InvT-loop
+Inv-loop slot row doubled₀ k₀ doubled k = Front (pairsTwice (pilotRow slot)) (replicate 32 0) doubled k × (k ≤ 32)
+
+abbrev μ-loop : tie.MeasureT-loop
+μ-loop slot row doubled₀ k₀ doubled k = 32 - k
+
+pilot-row-requires : tie.Need-pilot-row-requires Inv-loop μ-loop
 pilot-row-requires c κs = search needs
 
-array-read-t6 : tie.Need-array-read-t6
-array-read-t6 c = search needs
+loop-holds : tie.Need-loop-holds Inv-loop μ-loop
+loop-holds c = (front-none (doubled-long _), omega arith)
 
-array-read-t9 : tie.Need-array-read-t9
-array-read-t9 c = search needs
+mul-doubled : tie.Need-mul-doubled Inv-loop μ-loop
+mul-doubled c = omega arith
 
-array-read-t12 : tie.Need-array-read-t12
-array-read-t12 c = search needs
+add-doubled : tie.Need-add-doubled Inv-loop μ-loop
+add-doubled c = omega arith
 
-array-read-t15 : tie.Need-array-read-t15
-array-read-t15 c = search needs
+array-read-doubled : tie.Need-array-read-doubled Inv-loop μ-loop
+array-read-doubled c = omega arith
 
-array-read-t18 : tie.Need-array-read-t18
-array-read-t18 c = search needs
+array-write-doubled : tie.Need-array-write-doubled Inv-loop μ-loop
+array-write-doubled c = omega arith
 
-array-read-t21 : tie.Need-array-read-t21
-array-read-t21 c = search needs
+add-k : tie.Need-add-k Inv-loop μ-loop
+add-k c = omega arith
 
-array-read-t24 : tie.Need-array-read-t24
-array-read-t24 c = search needs
+loop-less : tie.Need-loop-less Inv-loop μ-loop
+loop-less c = omega arith
 
-array-read-t27 : tie.Need-array-read-t27
-array-read-t27 c = search needs
+loop-again : tie.Need-loop-again Inv-loop μ-loop
+loop-again c =
+    let slot = c .before .before .before .args .slot in
+    let k = c .before .loop .k in
+    let read : getD (c .before .before .pilot-row .result) (k / 4 * 2 + k % 2) 0 ≡ getD (pairsTwice (pilotRow slot)) k 0 =
+    ap (λ (row : List ℕ). getD row (k / 4 * 2 + k % 2) 0) (c .before .before .pilot-row .ensures) ∙ digit-is slot k (omega arith)
+    in
+    (front-store 0 (c .before .loop .inv .0) (omega (arith, front-length (c .before .loop .inv .0))) read, omega arith)
 
-array-read-t30 : tie.Need-array-read-t30
-array-read-t30 c = search needs
-
-array-read-t33 : tie.Need-array-read-t33
-array-read-t33 c = search needs
-
-array-read-t36 : tie.Need-array-read-t36
-array-read-t36 c = search needs
-
-array-read-t39 : tie.Need-array-read-t39
-array-read-t39 c = search needs
-
-array-read-t42 : tie.Need-array-read-t42
-array-read-t42 c = search needs
-
-array-read-t45 : tie.Need-array-read-t45
-array-read-t45 c = search needs
-
-array-read-t48 : tie.Need-array-read-t48
-array-read-t48 c = search needs
-
-array-read-t51 : tie.Need-array-read-t51
-array-read-t51 c = search needs
-
-array-read-t54 : tie.Need-array-read-t54
-array-read-t54 c = search needs
-
-array-read-t57 : tie.Need-array-read-t57
-array-read-t57 c = search needs
-
-array-read-t60 : tie.Need-array-read-t60
-array-read-t60 c = search needs
-
-array-read-t63 : tie.Need-array-read-t63
-array-read-t63 c = search needs
-
-array-read-t66 : tie.Need-array-read-t66
-array-read-t66 c = search needs
-
-array-read-t69 : tie.Need-array-read-t69
-array-read-t69 c = search needs
-
-array-read-t72 : tie.Need-array-read-t72
-array-read-t72 c = search needs
-
-array-read-t75 : tie.Need-array-read-t75
-array-read-t75 c = search needs
-
-array-read-t78 : tie.Need-array-read-t78
-array-read-t78 c = search needs
-
-array-read-t81 : tie.Need-array-read-t81
-array-read-t81 c = search needs
-
-array-read-t84 : tie.Need-array-read-t84
-array-read-t84 c = search needs
-
-array-read-t87 : tie.Need-array-read-t87
-array-read-t87 c = search needs
-
-array-read-t90 : tie.Need-array-read-t90
-array-read-t90 c = search needs
-
-array-read-t93 : tie.Need-array-read-t93
-array-read-t93 c = search needs
-
-array-read-t96 : tie.Need-array-read-t96
-array-read-t96 c = search needs
-
-array-read-t99 : tie.Need-array-read-t99
-array-read-t99 c = search needs
-
-returns : tie.Need-returns
-unfolding pairsTwice pilotRow symbolsOf joined
-returns c = rw (c .pilot-row .ensures)
+returns : tie.Need-returns Inv-loop μ-loop
+returns c = front-all (c .before .loop .inv .0) (omega arith)
 
 pub doubled-row-spec : {M : Type 1} → statement M
 doubled-row-spec =
     tie.close
     (tie.spec
+    Inv-loop
+    μ-loop
     pilot-row-requires
-    array-read-t6
-    array-read-t9
-    array-read-t12
-    array-read-t15
-    array-read-t18
-    array-read-t21
-    array-read-t24
-    array-read-t27
-    array-read-t30
-    array-read-t33
-    array-read-t36
-    array-read-t39
-    array-read-t42
-    array-read-t45
-    array-read-t48
-    array-read-t51
-    array-read-t54
-    array-read-t57
-    array-read-t60
-    array-read-t63
-    array-read-t66
-    array-read-t69
-    array-read-t72
-    array-read-t75
-    array-read-t78
-    array-read-t81
-    array-read-t84
-    array-read-t87
-    array-read-t90
-    array-read-t93
-    array-read-t96
-    array-read-t99
+    loop-holds
+    mul-doubled
+    add-doubled
+    array-read-doubled
+    array-write-doubled
+    add-k
+    loop-less
+    loop-again
     returns)
