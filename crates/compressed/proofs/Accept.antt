@@ -10,12 +10,13 @@ use lib.Dec.{eqb, leb, ltb, lit<}
 use lib.ListN.{length, getD, replicate, length-replicate, getD-replicate}
 use lib.Seq.{ext-getD}
 use Rattle.run.specs.Digits.{dtx}
-use Rattle.run.specs.First.{Every}
+use Rattle.run.specs.First.{Every, all, isAt}
 use Rattle.run.specs.Parts.{part}
 use Rattle.run.specs.Verdicts.{done, Narrow}
 use Rattle.run.proofs.Bools.{and-left, and-right}
 use Rattle.run.proofs.Chain.{or-else-done, unless-done, or-else-pass, unless-pass, each-done, each-pass, AllRight, lengths-done, lengths-pass, chain-done, check-narrow, lengths-narrow, or-else-narrow, each-narrow}
 use Rattle.run.proofs.Each.{each-same}
+use Rattle.run.proofs.Passing.{all-every}
 use Rattle.run.proofs.Parts.{part-length}
 use Rattle.dpch.specs.declared.Format.{Format}
 use Rattle.slot.specs.Rule.{dataSize}
@@ -108,16 +109,21 @@ module _ (f : Format) (first missing : ℕ) where
       (eq-eqb _ _ (r .frame-ok), (eq-eqb _ _ (x .data-ok), (eq-eqb _ _ (x .tfci-ok), (eq-eqb _ _ (x .commands-ok), tt))))
 
 -- a missing slot that is not refused is nothing but DTX, and the other way
+all-dtx : (xs : List ℕ) → Every (isAt dtx xs) (length xs) → xs ≡ replicate (length xs) dtx
+all-dtx xs all = ext-getD 0 xs (replicate (length xs) dtx) (sym (length-replicate (length xs) dtx)) (λ k l. eqb-true _ _ (all k l) ∙ sym (getD-replicate (length xs) k dtx 0 l))
+
 pub silent-ok : (xs : List ℕ) (base : ℕ) → silentVerdict xs base .number ≡ 0 → xs ≡ replicate (length xs) dtx
 unfolding silentVerdict
-silent-ok xs base h =
-    let all = each-done base 9 _ _ (omega arith) (or-else-done _ _ h .rest) in
-    ext-getD 0 xs (replicate (length xs) dtx) (sym (length-replicate (length xs) dtx)) (λ k l. eqb-true _ _ (all k l) ∙ sym (getD-replicate (length xs) k dtx 0 l))
+silent-ok xs base h = all-dtx xs (each-done base 9 _ _ (omega arith) (or-else-done _ _ h .rest))
 
 pub silent-pass : (n base : ℕ) → silentVerdict (replicate n dtx) base ≡ done
 unfolding silentVerdict
 silent-pass n base =
     or-else-pass (each-pass base 4 _ _ (each-same (λ (x : ℕ). leb x 2) n dtx refl)) (each-pass base 9 _ _ (each-same (λ (x : ℕ). eqb x dtx) n dtx refl))
+
+-- .. asked in one look
+pub silent-all : (xs : List ℕ) (base : ℕ) → all (length xs) (isAt dtx xs) ≡ true → silentVerdict xs base ≡ done
+silent-all xs base e = ap (λ (s : List ℕ). silentVerdict s base) (all-dtx xs (all-every (length xs) _ e)) ∙ silent-pass (length xs) base
 
 pub silent-narrow : (xs : List ℕ) (base : ℕ) → base + length xs < 4294967296 → Narrow (silentVerdict xs base)
 unfolding silentVerdict

@@ -6,27 +6,26 @@ use mathlib.Core.List.{List}
 use Prim.Native.Nat.{ℕ, _+_, _-_, _*_, _≤_, _<_}
 use native.Mathlib.Omega.{arith}
 use borrow.Rule.Slice.PartMut.{putMid, midOf}
-use lib.ListN.{length, getD, take, drop, replicate}
+use lib.ListN.{length, getD, take, drop, replicate, length-drop}
+use lib.Seq.{length-take-le}
 use Rattle.run.specs.declared.Verdict.{Verdict}
 use Rattle.run.specs.Digits.{dtx}
 use Rattle.run.specs.Parts.{part}
-use Rattle.run.specs.Verdicts.{leaves}
-use Rattle.run.proofs.Chain.{leaves-done, number-0}
 use Rattle.run.proofs.Frames as frames
 use Rattle.run.proofs.Frames.{lent-is, lent-part, lent-length, sized}
 use Rattle.run.proofs.Front.{Front}
 use Rattle.run.proofs.Parts.{part-room}
-use Rattle.dpch.specs.declared.Command.{Command}
 use Rattle.dpch.specs.declared.Format.{Format}
 use Rattle.slot.specs.Rule.{dataSize, slotOf, commandIn}
-use Rattle.slot.specs.Outcome.{partVerdict, rowHead, TakeRow}
-use Rattle.slot.specs.Ready.{Sound}
-use Rattle.slot.proofs.Accept.{row-head-pass}
+use Rattle.slot.specs.Outcome.{partVerdict, PutRow, TakeRow}
+use Rattle.slot.specs.declared.Sizes.{Sizes}
+use Rattle.slot.specs.Ready.{Sound, SizesOf}
+use Rattle.slot.proofs.Accept.{sizes-pass}
 use Rattle.slot.proofs.Rows.{shape}
 use Rattle.frame.proofs.Laws.{digits-at}
 use Rattle.compressed.specs.Rule.{isMissing, transmitted, numberOf, turnOf, slotAt, frameOf, dataIn, tfciIn, commandsIn}
 use Rattle.compressed.specs.Outcome.{silentVerdict, slotVerdict}
-use Rattle.compressed.specs.Ready.{Room}
+use Rattle.compressed.specs.Ready.{Room, Turn}
 use Rattle.compressed.proofs.Gap.{one-to-one, plan, small-product}
 use Rattle.compressed.proofs.Accept.{verdict-missing, verdict-sent}
 
@@ -73,69 +72,74 @@ module _ (f : Format) (s : Sound f) (first missing : ℕ) (ends : first + missin
   slot-written out x y k w out-ok h r front e =
       frames.as-slot (shape f s) (plan first missing ends) d tfci commands out x y k w data-ok tfci-ok out-ok h r front e
 
--- a missing slot is silent, and a transmitted one that of its command and parts as they are lent
+-- a missing slot is silent
 pub silence-is : (f : Format) (first missing : ℕ) (d tfci commands out y : List ℕ) (k : ℕ) → isMissing first missing k ≡ true → length out ≡ f .slot
     → y ≡ replicate (length out) dtx → y ≡ slotAt f first missing d tfci commands k
 silence-is f first missing d tfci commands out y k e long is = is ∙ rw (e, long)
 
-module _ (f : Format) (first missing : ℕ) (d tfci commands out : List ℕ) (room : Room f first missing (length d) (length tfci) (length commands) (15 * f .slot))
-    (out-ok : length out ≡ f .slot) (k i n m : ℕ) (h : k < 15) (sent : isMissing first missing k ≡ false) (turn : i ≡ turnOf first missing k) (p : n ≡ dataSize f) (q : m ≡ f .tfci) where
-  below : i < transmitted missing
-  below = let t = one-to-one first missing (room .gap-ok) .turn-below k h sent in omega arith
+-- .. where slot k is the i-th transmitted one
+pub sent-is : (f : Format) (first missing : ℕ) (d tfci commands y : List ℕ) (k i : ℕ) → isMissing first missing k ≡ false → i ≡ turnOf first missing k
+    → y ≡ slotOf f k (getD commands i 0) (part i (dataSize f) d) (part i (f .tfci) tfci) → y ≡ slotAt f first missing d tfci commands k
+sent-is f first missing d tfci commands y k i sent turn is = is ∙ rw (turn, sent)
 
-  pub slot-is : (y : List ℕ)
-      → y ≡ leaves (rowHead f (length (take (i * n + n - i * n) (drop (i * n) d))) (length (take (i * m + m - i * m) (drop (i * m) tfci))) (length out))
-      (slotOf f k (getD commands i 0) (take (i * n + n - i * n) (drop (i * n) d)) (take (i * m + m - i * m) (drop (i * m) tfci))) out
-      → y ≡ slotAt f first missing d tfci commands k
-  slot-is y e =
-      let head =
-      row-head-pass f _ _ _ (room .there) (lent-length i n d below (sized (transmitted missing) p (room .fields .data-ok)) ∙ p)
-      (lent-length i m tfci below (sized (transmitted missing) q (room .fields .tfci-ok)) ∙ q) out-ok
-      in
-      e ∙ leaves-done _ _ _ (number-0 head) ∙ rw (lent-is i n d, lent-is i m tfci, p, q, turn, sent)
+-- a part that is there is lent whole
+lent-room : (i n : ℕ) (s : List ℕ) → i * n + n ≤ length s → length (take (i * n + n - i * n) (drop (i * n) s)) ≡ n
+lent-room i n s h = length-take-le (i * n + n - i * n) (drop (i * n) s) (simp length-drop (omega arith)) ∙ omega arith
+
+-- the i-th transmitted slot as its command and parts are lent
+pub turn-is : (f : Format) (s : Sizes) (i k : ℕ) (d tfci commands out y : List ℕ) → Turn f s i (length d) (length tfci) (length commands) (length out)
+    → PutRow f k (getD commands i 0) (take (i * s .«data» + s .«data» - i * s .«data») (drop (i * s .«data») d)) (take (i * s .tfci + s .tfci - i * s .tfci) (drop (i * s .tfci) tfci)) out y
+    → y ≡ slotOf f k (getD commands i 0) (part i (dataSize f) d) (part i (f .tfci) tfci)
+turn-is f s i k d tfci commands out y turn e =
+    let p = turn .sizes .data-is in
+    let q = turn .sizes .tfci-is in
+    let sizes = sizes-pass f _ _ _ (turn .there) (lent-room i (s .«data») d (turn .data-room) ∙ p) (lent-room i (s .tfci) tfci (turn .tfci-room) ∙ q) (turn .slot-ok) in
+    e .out-is ∙ rw (sizes, lent-is i (s .«data») d, lent-is i (s .tfci) tfci, p, q)
 
 -- the i-th parts of the runs are there, and their bounds are small
-module _ (f : Format) (first missing dataLength tfciLength commandsLength frameLength : ℕ) (room : Room f first missing dataLength tfciLength commandsLength frameLength)
-    (i n m : ℕ) (h : i < transmitted missing) (p : n ≡ dataSize f) (q : m ≡ f .tfci) (n-short : n ≤ 1280) (m-short : m ≤ 1280) where
-  pub record Parts : Type 0 where
-    pub data-room : i * n + n ≤ dataLength
-    pub tfci-room : i * m + m ≤ tfciLength
-    pub command-room : i < commandsLength
-    pub data-small : i * n + n ≤ 20480
-    pub tfci-small : i * m + m ≤ 20480
-
-  pub parts-of : Parts
-  parts-of =
-      let a = part-room i (transmitted missing) n h in
-      let b = part-room i (transmitted missing) m h in
-      let x : dataLength ≡ transmitted missing * n = sized (transmitted missing) p (room .fields .data-ok) in
-      let y : tfciLength ≡ transmitted missing * m = sized (transmitted missing) q (room .fields .tfci-ok) in
-      let z = room .fields .commands-ok in
-      let u = small-product i n (omega arith) n-short in
-      let v = small-product i m (omega arith) m-short in
-      record { data-room = omega arith; tfci-room = omega arith; command-room = omega arith; data-small = omega arith; tfci-small = omega arith }
+pub turn-of-slot : (f : Format) (s : Sizes) (first missing dataLength tfciLength commandsLength frameLength slotLength i : ℕ)
+    → Room f first missing dataLength tfciLength commandsLength frameLength → SizesOf f s → slotLength ≡ f .slot → i < transmitted missing
+    → Turn f s i dataLength tfciLength commandsLength slotLength
+turn-of-slot f s first missing dataLength tfciLength commandsLength frameLength slotLength i room sizes slot-ok h =
+    let a = part-room i (transmitted missing) (s .«data») h in
+    let b = part-room i (transmitted missing) (s .tfci) h in
+    let x : dataLength ≡ transmitted missing * s .«data» = sized (transmitted missing) (sizes .data-is) (room .fields .data-ok) in
+    let y : tfciLength ≡ transmitted missing * s .tfci = sized (transmitted missing) (sizes .tfci-is) (room .fields .tfci-ok) in
+    let z = room .fields .commands-ok in
+    let n = sizes .data-short in
+    let m = sizes .tfci-short in
+    let u = small-product i (s .«data») (omega arith) n in
+    let v = small-product i (s .tfci) (omega arith) m in
+    record {
+      there = room .there;
+      sizes = sizes;
+      slot-ok = slot-ok;
+      data-room = omega arith;
+      tfci-room = omega arith;
+      command-room = omega arith;
+      data-small = omega arith;
+      tfci-small = omega arith;
+    }
 
 -- .. and so are those of the turn of slot k
-pub turn-parts : (f : Format) (first missing dataLength tfciLength commandsLength frameLength : ℕ)
-    (room : Room f first missing dataLength tfciLength commandsLength frameLength) (k i n m : ℕ) → k < 15 → isMissing first missing k ≡ false → i ≡ turnOf first missing k
-    → n ≡ dataSize f → m ≡ f .tfci → n ≤ 1280 → m ≤ 1280 → (i * n + n ≤ dataLength) × (i * m + m ≤ tfciLength) × (i < commandsLength) × (i * n + n ≤ 20480) × (i * m + m ≤ 20480)
-turn-parts f first missing dataLength tfciLength commandsLength frameLength room k i n m h sent turn p q n-short m-short =
-    let below : i < transmitted missing = let t = one-to-one first missing (room .gap-ok) .turn-below k h sent in omega arith in
-    let r = parts-of f first missing dataLength tfciLength commandsLength frameLength room i n m below p q n-short m-short in
-    (r .data-room, r .tfci-room, r .command-room, r .data-small, r .tfci-small)
+pub turn-there : (f : Format) (s : Sizes) (first missing dataLength tfciLength commandsLength frameLength slotLength k i : ℕ)
+    → Room f first missing dataLength tfciLength commandsLength frameLength → SizesOf f s → slotLength ≡ f .slot → k < 15 → isMissing first missing k ≡ false → i ≡ turnOf first missing k
+    → Turn f s i dataLength tfciLength commandsLength slotLength
+turn-there f s first missing dataLength tfciLength commandsLength frameLength slotLength k i room sizes slot-ok h sent turn =
+    turn-of-slot f s first missing dataLength tfciLength commandsLength frameLength slotLength i room sizes slot-ok
+    (let t = one-to-one first missing (room .gap-ok) .turn-below k h sent in omega arith)
 
 -- .. and of the i-th transmitted slot, and its own part of the frame
-pub take-parts : (f : Format) (first missing dataLength tfciLength commandsLength frameLength : ℕ)
-    (room : Room f first missing dataLength tfciLength commandsLength frameLength) (i k n m w : ℕ) → i < transmitted missing → k ≡ numberOf first missing i
-    → n ≡ dataSize f → m ≡ f .tfci → w ≡ f .slot → n ≤ 1280 → m ≤ 1280 → w ≤ 1280
-    → (i * n + n ≤ dataLength) × (i * m + m ≤ tfciLength) × (i < commandsLength) × (i * n + n ≤ 20480) × (i * m + m ≤ 20480) × (k * w + w ≤ frameLength) × (k * w + w ≤ 20480)
-take-parts f first missing dataLength tfciLength commandsLength frameLength room i k n m w h number p q r n-short m-short w-short =
-    let x = parts-of f first missing dataLength tfciLength commandsLength frameLength room i n m h p q n-short m-short in
+pub take-parts : (f : Format) (s : Sizes) (first missing dataLength tfciLength commandsLength frameLength i k : ℕ)
+    → Room f first missing dataLength tfciLength commandsLength frameLength → SizesOf f s → i < transmitted missing → k ≡ numberOf first missing i
+    → Turn f s i dataLength tfciLength commandsLength (f .slot) × (k * s .slot + s .slot ≤ frameLength) × (k * s .slot + s .slot ≤ 20480)
+take-parts f s first missing dataLength tfciLength commandsLength frameLength i k room sizes h number =
     let below : k < 15 = let z = one-to-one first missing (room .gap-ok) .number-below i h in omega arith in
-    let y = part-room k 15 w below in
-    let z : frameLength ≡ 15 * w = sized 15 r (room .frame-ok) in
-    let u = small-product k w (omega arith) w-short in
-    (x .data-room, x .tfci-room, x .command-room, x .data-small, x .tfci-small, omega arith, omega arith)
+    let y = part-room k 15 (s .slot) below in
+    let z : frameLength ≡ 15 * s .slot = sized 15 (sizes .slot-is) (room .frame-ok) in
+    let w = sizes .slot-short in
+    let u = small-product k (s .slot) (omega arith) w in
+    (turn-of-slot f s first missing dataLength tfciLength commandsLength frameLength (f .slot) i room sizes refl h, omega arith, omega arith)
 
 -- what is asked of the runs, with the frame's length by the row
 pub room-for : (f : Format) (first missing dataLength tfciLength commandsLength frameLength : ℕ) → Room f first missing dataLength tfciLength commandsLength frameLength
@@ -166,26 +170,25 @@ module _ (f : Format) (s : Sound f) (first missing : ℕ) (xs d t c x u : List �
     (h : i < transmitted missing) (number : k ≡ numberOf first missing i) (p : n ≡ dataSize f) (q : m ≡ f .tfci) (r : w ≡ f .slot)
     (front : Front (dataIn f first missing xs) d x (i * n)) (g : Front (tfciIn f first missing xs) t u (i * m)) where
   -- what is known of the runs once it is taken
-  pub record Back (answer : Command) (y v : List ℕ) : Type 0 where
+  pub record Back (command : ℕ) (y v : List ℕ) : Type 0 where
     pub data-back : Front (dataIn f first missing xs) d (putMid (i * n) (i * n + n - i * n) x y) ((i + 1) * n)
     pub tfci-back : Front (tfciIn f first missing xs) t (putMid (i * m) (i * m + m - i * m) u v) ((i + 1) * m)
-    pub command-back : answer .tpc ≡ getD (commandsIn f first missing xs) i 0
+    pub command-back : command ≡ getD (commandsIn f first missing xs) i 0
 
-  pub slot-back : (answer : Command) (y v : List ℕ)
-      → TakeRow f (take (k * w + w - k * w) (drop (k * w) xs)) (midOf (i * n) (i * n + n - i * n) x) (midOf (i * m) (i * m + m - i * m) u) answer y v
-      → Back answer y v
+  pub slot-back : (command : ℕ) (y v : List ℕ)
+      → TakeRow f (take (k * w + w - k * w) (drop (k * w) xs)) (midOf (i * n) (i * n + n - i * n) x) (midOf (i * m) (i * m + m - i * m) u) command y v
+      → Back command y v
   unfolding dataIn tfciIn commandsIn shape plan
-  slot-back answer y v e =
+  slot-back command y v e =
       let long = room .frame-ok in
       let below : k < 15 = let z = one-to-one first missing (room .gap-ok) .number-below i h in omega arith in
-      let head =
-      number-0
-      (row-head-pass f _ _ _ (room .there) (lent-part i n h (sized (transmitted missing) p (room .fields .data-ok)) front ∙ p)
-      (lent-part i m h (sized (transmitted missing) q (room .fields .tfci-ok)) g ∙ q) (lent-length k w xs below (sized 15 r long) ∙ r))
+      let sizes =
+      sizes-pass f _ _ _ (room .there) (lent-part i n h (sized (transmitted missing) p (room .fields .data-ok)) front ∙ p)
+      (lent-part i m h (sized (transmitted missing) q (room .fields .tfci-ok)) g ∙ q) (lent-length k w xs below (sized 15 r long) ∙ r)
       in
       let pl = plan first missing (room .gap-ok) in
       record {
-        data-back = frames.first-taken (shape f s) pl xs long i k w h number r d x y n (room .fields .data-ok) p front (e .data-is ∙ leaves-done _ _ _ head);
-        tfci-back = frames.second-taken (shape f s) pl xs long i k w h number r t u v m (room .fields .tfci-ok) q g (e .tfci-is ∙ leaves-done _ _ _ head);
-        command-back = frames.command-taken (shape f s) pl xs long i k w h number r _ (e .command-is ∙ leaves-done _ _ _ head);
+        data-back = frames.first-taken (shape f s) pl xs long i k w h number r d x y n (room .fields .data-ok) p front (e .data-is ∙ rw sizes);
+        tfci-back = frames.second-taken (shape f s) pl xs long i k w h number r t u v m (room .fields .tfci-ok) q g (e .tfci-is ∙ rw sizes);
+        command-back = frames.command-taken (shape f s) pl xs long i k w h number r _ (e .command-is ∙ rw sizes);
       }

@@ -6,7 +6,9 @@ use mathlib.Core.Bool.{true}
 use mathlib.Core.List.{List}
 use Rattle.run.specs.Parts.{part}
 use Rattle.dpch.specs.declared.Format.{Format}
+use Rattle.slot.specs.declared.Sizes.{Sizes}
 use Rattle.slot.specs.Rule.{dataSize, commandIn}
+use Rattle.slot.specs.Ready.{SizesOf}
 use Rattle.compressed.specs.Rule.{transmitted, numberOf, gapStands}
 
 -- the runs of the fields have their lengths
@@ -26,3 +28,14 @@ pub record Room (f : Format) (first missing dataLength tfciLength commandsLength
 -- the commands of a frame that was accepted are bits
 pub record Bits (f : Format) (first missing : ℕ) (xs : List ℕ) : Type 0 where
   pub bit : (i : ℕ) → i < transmitted missing → commandIn f (part (numberOf first missing i) (f .slot) xs) ≤ 1
+
+-- the i-th transmitted slot finds its command and its parts of data and TFCI in the runs, and the slot is lent whole
+pub record Turn (f : Format) (s : Sizes) (i dataLength tfciLength commandsLength slotLength : ℕ) : Type 0 where
+  pub there : 0 < f .kind
+  pub sizes : SizesOf f s
+  pub slot-ok : slotLength ≡ f .slot
+  pub data-room : i * s .«data» + s .«data» ≤ dataLength
+  pub tfci-room : i * s .tfci + s .tfci ≤ tfciLength
+  pub command-room : i < commandsLength
+  pub data-small : i * s .«data» + s .«data» ≤ 20480
+  pub tfci-small : i * s .tfci + s .tfci ≤ 20480

@@ -1,5 +1,6 @@
 // A compressed frame of the downlink DPCH, with a gap of missing slots: its rule, promises and theorems, and the checks of row, gap and lengths:
 // docs/RULES.md, 'Compressed frames'; TS 25.211, 5.3.2.
+use dpch::Format;
 use run::Verdict;
 use run::lengths;
 use run::or_else;
@@ -42,10 +43,9 @@ pub fn turn_of(first: usize, missing: usize, k: usize) -> usize
 }
 
 // Whether the gap leaves as many slots as the row permits, and ends by slot 14.
-fn gap_stands(kind: usize, format: usize, first: usize, missing: usize) -> bool
-    ensures { λ r. ⌜ r ≡ gapStands (formatIn kind format) first missing ⌝ }
+fn gap_stands(f: Format, first: usize, missing: usize) -> bool
+    ensures { λ r. ⌜ r ≡ gapStands f first missing ⌝ }
 {
-    let f = dpch_rows::format_in(kind, format);
     let sent = transmitted(missing);
     if sent < f.fewest {
         return false;
@@ -60,21 +60,11 @@ fn gap_stands(kind: usize, format: usize, first: usize, missing: usize) -> bool
 }
 
 // The checks with which both calls begin: the row, the gap, then the lengths of four runs.
-fn gap_head(
-    kind: usize,
-    format: usize,
-    first: usize,
-    missing: usize,
-    a: bool,
-    b: bool,
-    c: bool,
-    d: bool,
-) -> Verdict
-    ensures { λ r. ⌜ r ≡ gapHead (formatIn kind format) first missing (a ∷ b ∷ c ∷ d ∷ []) ⌝ }
+fn gap_head(f: Format, first: usize, missing: usize, a: bool, b: bool, c: bool, d: bool) -> Verdict
+    ensures { λ r. ⌜ r ≡ gapHead f first missing (a ∷ b ∷ c ∷ d ∷ []) ⌝ }
 {
-    let f = dpch_rows::format_in(kind, format);
     let right = lengths(a, b, c, d);
-    let stands = gap_stands(kind, format, first, missing);
+    let stands = gap_stands(f, first, missing);
     let gap = or_else(unless(stands, refusal::GAP, 0), right);
     or_else(unless(0 < f.kind, refusal::FORMAT, 0), gap)
 }
@@ -95,8 +85,7 @@ pub fn map_head(
     let s = slot::row_sizes(kind, format);
     let n = transmitted(missing);
     gap_head(
-        kind,
-        format,
+        dpch_rows::format_in(kind, format),
         first,
         missing,
         data_length == n * s.data,
@@ -122,8 +111,7 @@ pub fn read_head(
     let s = slot::row_sizes(kind, format);
     let n = transmitted(missing);
     gap_head(
-        kind,
-        format,
+        dpch_rows::format_in(kind, format),
         first,
         missing,
         frame_length == 15 * s.slot,

@@ -1,15 +1,19 @@
 // The slots of a compressed frame, one after the other: each transmitted one is lent its own part of every run.
 use run::DTX;
 use run::Verdict;
+use slot::Sizes;
 use slot::row_sizes;
 ghost use mathlib.Core.Path.{_≡_};
 ghost use Prim.Native.Nat.{_*_, _<_};
-ghost use lib.ListN.{length};
+ghost use lib.ListN.{length, getD};
+ghost use Rattle.run.specs.Parts.{part};
 ghost use Rattle.run.specs.Verdicts.{chain};
 ghost use Rattle.dpch.specs.Compressed.{formatIn};
+ghost use Rattle.slot.specs.Rule.{dataSize, slotOf};
+ghost use Rattle.slot.specs.Ready.{SizesOf};
 ghost use Rattle.frame.specs.Outcome.{slotFields};
 ghost use Rattle.compressed.specs.Rule.{transmitted, slotAt, frameOf};
-ghost use Rattle.compressed.specs.Ready.{Ready, Room};
+ghost use Rattle.compressed.specs.Ready.{Ready, Room, Turn};
 
 // The first transmitted slot whose command, TFCI or data is refused.
 pub(crate) fn check_fields(
@@ -53,27 +57,21 @@ pub(crate) fn check_fields(
     }
 }
 
-// A slot into its part of the frame: of its own number and of the command and the parts of its turn, or silent.
-fn write_slot(
+// A transmitted slot into its part of the frame: of its own number, and of the command and the parts of its turn.
+fn write_turn(
     kind: usize,
     format: usize,
-    first: usize,
-    missing: usize,
+    s: Sizes,
     slot: usize,
+    i: usize,
     data: &[u8],
     tfci: &[u8],
     out: &mut [u8],
     commands: &[u8],
 )
-    requires { ⌜ Room (formatIn kind format) first missing (length (now «data»)) (length (now tfci)) (length (now commands)) (15 * formatIn kind format .slot) × (slot < 15) × (length (now out) ≡ formatIn kind format .slot) ⌝ }
-    ensures { λ _. ⌜ now (out .exit) ≡ slotAt (formatIn kind format) first missing (now («data» .entry)) (now (tfci .entry)) (now (commands .entry)) slot ⌝ }
+    requires { ⌜ Turn (formatIn kind format) s i (length (now «data»)) (length (now tfci)) (length (now commands)) (length (now out)) ⌝ }
+    ensures { λ _. ⌜ now (out .exit) ≡ slotOf (formatIn kind format) slot (getD (now (commands .entry)) i 0) (part i (dataSize (formatIn kind format)) (now («data» .entry))) (part i (formatIn kind format .tfci) (now (tfci .entry))) ⌝ }
 {
-    if compressed::is_missing(first, missing, slot) {
-        write::fill(out, DTX);
-        return;
-    }
-    let s = row_sizes(kind, format);
-    let i = compressed::turn_of(first, missing, slot);
     let a = i * s.data;
     let e = a + s.data;
     let b = i * s.tfci;
@@ -87,6 +85,30 @@ fn write_slot(
         &tfci[b..c],
         out,
     );
+}
+
+// Any slot into its part of the frame: that of its turn, or silence.
+fn write_slot(
+    kind: usize,
+    format: usize,
+    s: Sizes,
+    first: usize,
+    missing: usize,
+    slot: usize,
+    data: &[u8],
+    tfci: &[u8],
+    out: &mut [u8],
+    commands: &[u8],
+)
+    requires { ⌜ Room (formatIn kind format) first missing (length (now «data»)) (length (now tfci)) (length (now commands)) (15 * formatIn kind format .slot) × SizesOf (formatIn kind format) s × (slot < 15) × (length (now out) ≡ formatIn kind format .slot) ⌝ }
+    ensures { λ _. ⌜ now (out .exit) ≡ slotAt (formatIn kind format) first missing (now («data» .entry)) (now (tfci .entry)) (now (commands .entry)) slot ⌝ }
+{
+    if compressed::is_missing(first, missing, slot) {
+        write::fill(out, DTX);
+    } else {
+        let turn = compressed::turn_of(first, missing, slot);
+        write_turn(kind, format, s, slot, turn, data, tfci, out, commands);
+    }
 }
 
 // Each slot into its part of the frame.
@@ -112,6 +134,7 @@ pub(crate) fn write(
         write_slot(
             kind,
             format,
+            s,
             first,
             missing,
             k,

@@ -16,10 +16,16 @@ ghost use Rattle.compressed.specs.Rule.{isMissing, numberOf, dataIn, tfciIn, co
 ghost use Rattle.compressed.specs.Outcome.{silentVerdict, slotVerdict};
 ghost use Rattle.compressed.specs.Ready.{Room, Bits};
 
-// The checks of a missing slot's digits, which count their places from `base`.
+// The checks of a missing slot's digits, which count their places from `base`. Where all is silent there is no place to look for.
 fn silent_verdict(xs: &[u8], base: u32) -> Verdict
     ensures { λ r. ⌜ r ≡ silentVerdict (now (xs .entry)) base ⌝ }
 {
+    if slot_fits::is_silent(xs) {
+        return Verdict {
+            number: 0,
+            place: 0,
+        };
+    }
     let silence = found(xs, scan::first_other(xs, DTX), refusal::FRAME, base);
     or_else(
         found(xs, scan::first_above(xs, 2), refusal::DIGIT, base),
@@ -111,7 +117,7 @@ pub(crate) fn take(
         let i = k * w;
         let j = i + w;
         let taken = slot_read::take_row(kind, format, &xs[i..j], &mut data[a..e], &mut tfci[b..c]);
-        commands[t] = taken.tpc as u8;
+        commands[t] = taken as u8;
         t += 1;
     }
 }

@@ -1,22 +1,23 @@
 -- What is known of a slot's numbers, lengths and digits where no check refuses them.
 -- Assumes nothing.
 use mathlib.Core.Path.{_≡_}
-use mathlib.Core.Bool.{Bool, true}
+use mathlib.Core.Bool.{Bool, true, _&&_}
 use mathlib.Core.List.{List}
 use Prim.Native.Nat.{ℕ, _<_, _≤_}
 use native.Mathlib.Omega.{arith}
 use borrow.Author.Tests.{eqb-true, leb-true, ltb-true, le-leb, lt-ltb, eq-eqb}
-use lib.Dec.{eqb, lit<}
+use lib.Dec.{eqb, ltb, lit<}
 use lib.ListN.{length}
 use Rattle.run.specs.First.{Every, atMost, likeFirst, agree}
 use Rattle.run.specs.Verdicts.{done}
-use Rattle.run.proofs.Chain.{four-done, or-else-done, unless-done, each-done, or-else-pass, unless-pass, each-pass, lengths-done, lengths-pass}
+use Rattle.run.proofs.Chain.{four-done, or-else-done, unless-done, each-done, or-else-pass, unless-pass, each-pass}
+use Rattle.run.proofs.Bools.{and-left, and-right}
 use Rattle.dpch.specs.declared.Format.{Format}
 use Rattle.dpch.specs.Formats.{formatOf}
 use Rattle.dpch.specs.Compressed.{pilotFor}
 use Rattle.dpch.proofs.Heads.{SlotHeaded, slot-headed, slot-head-pass}
 use Rattle.slot.specs.Rule.{dataSize, tpcIn, tfciIn, pilotIn, tfciStands}
-use Rattle.slot.specs.Outcome.{mapHead, fieldsVerdict, mapVerdict, readHead, digitsVerdict, readVerdict, rowHead}
+use Rattle.slot.specs.Outcome.{mapHead, fieldsVerdict, mapVerdict, readHead, digitsVerdict, readVerdict, sizesAre}
 use Rattle.slot.specs.Ready.{Sound, Ready}
 use Rattle.slot.proofs.Laws.{sound-format}
 
@@ -62,27 +63,31 @@ pub read-head-pass : (format slot slotLength dataLength tfciLength : ℕ) → fo
 unfolding readHead
 read-head-pass format slot slotLength dataLength tfciLength a b p q r = slot-head-pass 16 format _ slot a b (eq-eqb _ _ p, (eq-eqb _ _ q, (eq-eqb _ _ r, tt)))
 
--- .. of a row of a compressed format
-pub record RowHeaded (f : Format) (dataLength tfciLength slotLength : ℕ) : Type 0 where
+-- all that writing a slot of a compressed format or taking its fields stands on, and back
+pub record Sized (f : Format) (dataLength tfciLength slotLength : ℕ) : Type 0 where
   pub there : 0 < f .kind
   pub ready : Ready f dataLength tfciLength slotLength
 
-pub row-headed : (f : Format) → Sound f → (dataLength tfciLength slotLength : ℕ) → rowHead f dataLength tfciLength slotLength .number ≡ 0
-    → RowHeaded f dataLength tfciLength slotLength
-unfolding rowHead
-row-headed f s dataLength tfciLength slotLength h =
-    let c = or-else-done _ _ h in
-    let right = lengths-done _ (c .rest) in
+pub sizes-ready : (f : Format) → Sound f → (dataLength tfciLength slotLength : ℕ) → sizesAre f dataLength tfciLength slotLength ≡ true → Sized f dataLength tfciLength slotLength
+unfolding sizesAre
+sizes-ready f s dataLength tfciLength slotLength e =
+    let last = eqb tfciLength (f .tfci) && eqb slotLength (f .slot) in
+    let lengths = and-right (ltb 0 (f .kind)) (eqb dataLength (dataSize f) && last) e in
+    let later = and-right (eqb dataLength (dataSize f)) last lengths in
     record {
-      there = ltb-true _ _ (unless-done _ 1 0 (omega arith) (c .first));
-      ready = record { sound = s; data-ok = eqb-true _ _ (right 0 (lit< tt)); tfci-ok = eqb-true _ _ (right 1 (lit< tt)); slot-ok = eqb-true _ _ (right 2 (lit< tt)) };
+      there = ltb-true _ _ (and-left (ltb 0 (f .kind)) (eqb dataLength (dataSize f) && last) e);
+      ready = record {
+        sound = s;
+        data-ok = eqb-true _ _ (and-left (eqb dataLength (dataSize f)) last lengths);
+        tfci-ok = eqb-true _ _ (and-left (eqb tfciLength (f .tfci)) (eqb slotLength (f .slot)) later);
+        slot-ok = eqb-true _ _ (and-right (eqb tfciLength (f .tfci)) (eqb slotLength (f .slot)) later);
+      };
     }
 
-pub row-head-pass : (f : Format) (dataLength tfciLength slotLength : ℕ) → 0 < f .kind → dataLength ≡ dataSize f → tfciLength ≡ f .tfci → slotLength ≡ f .slot
-    → rowHead f dataLength tfciLength slotLength ≡ done
-unfolding rowHead
-row-head-pass f dataLength tfciLength slotLength h p q r =
-    or-else-pass (unless-pass 1 0 (lt-ltb _ _ h)) (lengths-pass _ (eq-eqb _ _ p, (eq-eqb _ _ q, (eq-eqb _ _ r, tt))))
+pub sizes-pass : (f : Format) (dataLength tfciLength slotLength : ℕ) → 0 < f .kind → dataLength ≡ dataSize f → tfciLength ≡ f .tfci → slotLength ≡ f .slot
+    → sizesAre f dataLength tfciLength slotLength ≡ true
+unfolding sizesAre
+sizes-pass f dataLength tfciLength slotLength h p q r = rw (lt-ltb _ _ h, eq-eqb _ _ p, eq-eqb _ _ q, eq-eqb _ _ r)
 
 -- command, TFCI and data
 pub record FieldsOk (tpc : ℕ) (d tfci : List ℕ) : Type 0 where

@@ -2,14 +2,15 @@
 -- Assumes nothing.
 use Prim.Native.Nat.{ℕ, _+_}
 use mathlib.Core.Path.{_≡_}
+use mathlib.Core.Bool.{Bool, cond, _&&_}
 use mathlib.Core.List.{List, [], _∷_}
 use lib.ListN.{length}
 use lib.Dec.{eqb, leb, ltb}
 use Rattle.run.specs.declared.Verdict.{Verdict}
 use Rattle.run.specs.First.{atMost, likeFirst, agree}
 use Rattle.run.specs.Fields.{start}
-use Rattle.run.specs.Refusals.{formatRefused, lengthRefused, digitRefused, tpcRefused, tfciRefused, pilotRefused}
-use Rattle.run.specs.Verdicts.{orElse, unless, each, lengths, leaves}
+use Rattle.run.specs.Refusals.{lengthRefused, digitRefused, tpcRefused, tfciRefused, pilotRefused}
+use Rattle.run.specs.Verdicts.{orElse, unless, each, leaves}
 use Rattle.dpch.specs.declared.Format.{Format}
 use Rattle.dpch.specs.declared.Command.{Command}
 use Rattle.dpch.specs.Formats.{formatOf, widths}
@@ -85,22 +86,19 @@ pub record Take (format slot : ℕ) (xs d tfci : List ℕ) (answer : Command) (d
   pub data-is : d-after ≡ leaves (readHead format slot (length xs) (length d) (length tfci)) (dataIn (formatOf format) xs) d
   pub tfci-is : tfci-after ≡ leaves (readHead format slot (length xs) (length d) (length tfci)) (tfciIn (formatOf format) xs) tfci
 
--- ---- the parts for a row of a compressed format, which take no slot number's refusal: 1 where the table has no such row, 3 (data, TFCI, slot)
-unfoldable pub rowHead : Format → ℕ → ℕ → ℕ → Verdict
-rowHead f dataLength tfciLength slotLength =
-    orElse (unless (ltb 0 (f .kind)) formatRefused 0)
-    (lengths
-    (eqb dataLength (dataSize f)
-    ∷ eqb tfciLength (f .tfci)
-    ∷ eqb slotLength (f .slot)
-    ∷ []))
+-- ---- the parts for a row of a compressed format: they ask no slot number and answer no verdict
 
-pub record PutRow (f : Format) (slot tpc : ℕ) (d tfci out : List ℕ) (answer : Verdict) (out-after : List ℕ) : Type 0 where
-  pub verdict-is : answer ≡ rowHead f (length d) (length tfci) (length out)
-  pub out-is : out-after ≡ leaves (rowHead f (length d) (length tfci) (length out)) (slotOf f slot tpc d tfci) out
+-- whether the row is one of a compressed format, and data, TFCI and slot have its lengths
+unfoldable pub sizesAre : Format → ℕ → ℕ → ℕ → Bool
+sizesAre f dataLength tfciLength slotLength =
+    ltb 0 (f .kind) && (eqb dataLength (dataSize f) && (eqb tfciLength (f .tfci) && eqb slotLength (f .slot)))
 
-pub record TakeRow (f : Format) (xs d tfci : List ℕ) (answer : Command) (d-after tfci-after : List ℕ) : Type 0 where
-  pub verdict-is : answer .verdict ≡ rowHead f (length d) (length tfci) (length xs)
-  pub command-is : answer .tpc ≡ leaves (rowHead f (length d) (length tfci) (length xs)) (commandIn f xs) 0
-  pub data-is : d-after ≡ leaves (rowHead f (length d) (length tfci) (length xs)) (dataIn f xs) d
-  pub tfci-is : tfci-after ≡ leaves (rowHead f (length d) (length tfci) (length xs)) (tfciIn f xs) tfci
+-- .. that writes a slot with no look at its digits; where the lengths are others, nothing is written
+pub record PutRow (f : Format) (slot tpc : ℕ) (d tfci out out-after : List ℕ) : Type 0 where
+  pub out-is : out-after ≡ cond (sizesAre f (length d) (length tfci) (length out)) (slotOf f slot tpc d tfci) out
+
+-- .. that takes the fields out of a slot with no look at their digits; where the lengths are others the command is 0 and nothing is taken
+pub record TakeRow (f : Format) (xs d tfci : List ℕ) (command : ℕ) (d-after tfci-after : List ℕ) : Type 0 where
+  pub command-is : command ≡ cond (sizesAre f (length d) (length tfci) (length xs)) (commandIn f xs) 0
+  pub data-is : d-after ≡ cond (sizesAre f (length d) (length tfci) (length xs)) (dataIn f xs) d
+  pub tfci-is : tfci-after ≡ cond (sizesAre f (length d) (length tfci) (length xs)) (tfciIn f xs) tfci

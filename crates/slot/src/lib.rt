@@ -2,14 +2,10 @@
 use dpch::Format;
 use dpch::slot_head;
 use run::Verdict;
-use run::lengths;
-use run::or_else;
-use run::refusal;
-use run::unless;
 ghost use mathlib.Core.Path.{_≡_};
 ghost use Rattle.dpch.specs.Formats.{formatOf};
 ghost use Rattle.dpch.specs.Compressed.{formatIn};
-ghost use Rattle.slot.specs.Outcome.{mapHead, readHead, rowHead};
+ghost use Rattle.slot.specs.Outcome.{mapHead, readHead, sizesAre};
 ghost use Rattle.slot.specs.Ready.{Sound, SizesOf};
 
 // The lengths of one slot's runs.
@@ -86,23 +82,22 @@ pub fn read_head(
     )
 }
 
-// The checks of row and lengths before a slot of a compressed format is written or taken.
-pub fn row_head(
-    kind: usize,
-    format: usize,
-    data_length: usize,
-    tfci_length: usize,
-    run_length: usize,
-) -> Verdict
-    ensures { λ r. ⌜ r ≡ rowHead (formatIn kind format) «data_length» «tfci_length» «run_length» ⌝ }
+// Whether a row is one of a compressed format, and data, TFCI and slot have its lengths: all that writing a slot of it or taking its fields stands on. Nothing is added:
+// the row may be any.
+pub fn sizes_are(f: Format, data_length: usize, tfci_length: usize, slot_length: usize) -> bool
+    ensures { λ r. ⌜ r ≡ sizesAre f «data_length» «tfci_length» «slot_length» ⌝ }
 {
-    let f = dpch_rows::format_in(kind, format);
-    let s = row_sizes(kind, format);
-    let right = lengths(
-        data_length == s.data,
-        tfci_length == s.tfci,
-        run_length == s.slot,
-        true,
-    );
-    or_else(unless(0 < f.kind, refusal::FORMAT, 0), right)
+    if f.kind == 0 {
+        return false;
+    }
+    if data_length < f.data1 {
+        return false;
+    }
+    if data_length - f.data1 != f.data2 {
+        return false;
+    }
+    if tfci_length != f.tfci {
+        return false;
+    }
+    slot_length == f.slot
 }

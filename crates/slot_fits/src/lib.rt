@@ -8,6 +8,7 @@ ghost use mathlib.Core.Bool.{_&&_, Bool·beq};
 ghost use Prim.Native.Nat.{_≤_};
 ghost use lib.Dec.{eqb};
 ghost use lib.ListN.{length};
+ghost use Rattle.run.specs.Digits.{dtx};
 ghost use Rattle.run.specs.First.{all, isAt, likeFirst, agree};
 ghost use Rattle.dpch.specs.Formats.{normal, kindB, formatOf};
 ghost use Rattle.dpch.specs.Pilots.{pilotOf};
@@ -95,6 +96,7 @@ fn is_command(s: &[u8]) -> bool
         2 => all_are(s, v, 2),
         4 => all_are(s, v, 4),
         8 => all_are(s, v, 8),
+        16 => all_are(s, v, 16),
         _ => all_are(s, v, n),
     }
 }
@@ -110,7 +112,9 @@ pub fn is_tfci(s: &[u8]) -> bool
     let silent = s[0] == DTX;
     match n {
         2 => all_of_kind(s, silent, 2),
+        4 => all_of_kind(s, silent, 4),
         8 => all_of_kind(s, silent, 8),
+        16 => all_of_kind(s, silent, 16),
         _ => all_of_kind(s, silent, n),
     }
 }
@@ -193,4 +197,11 @@ pub fn row_fits(kind: usize, format: usize, slot: usize, xs: &[u8]) -> bool
         return false;
     }
     fields_fit(f, slot, xs)
+}
+
+// Whether all digits are DTX, as in a slot that is not sent.
+pub fn is_silent(s: &[u8]) -> bool
+    ensures { λ r. ⌜ r ≡ all (length (now (s .entry))) (isAt dtx (now (s .entry))) ⌝ }
+{
+    all_are(s, DTX, s.len())
 }

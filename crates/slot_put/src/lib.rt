@@ -41,7 +41,7 @@ pub fn put(format: usize, slot: usize, tpc: u8, data: &[u8], tfci: &[u8], out: &
     head
 }
 
-// .. of a row of a compressed format.
+// .. of a row of a compressed format, where the runs have its lengths.
 pub fn put_row(
     kind: usize,
     format: usize,
@@ -50,14 +50,11 @@ pub fn put_row(
     data: &[u8],
     tfci: &[u8],
     out: &mut [u8],
-) -> Verdict
-    ensures { λ r. ⌜ PutRow (formatIn kind format) slot tpc (now («data» .entry)) (now (tfci .entry)) (now (out .entry)) r (now (out .exit)) ⌝ }
+)
+    ensures { λ _. ⌜ PutRow (formatIn kind format) slot tpc (now («data» .entry)) (now (tfci .entry)) (now (out .entry)) (now (out .exit)) ⌝ }
 {
-    let head = slot::row_head(kind, format, data.len(), tfci.len(), out.len());
-    if head.number != 0 {
-        return head;
-    }
     let f = dpch_rows::format_in(kind, format);
-    write(f, slot, tpc, data, tfci, out);
-    head
+    if slot::sizes_are(f, data.len(), tfci.len(), out.len()) {
+        write(f, slot, tpc, data, tfci, out);
+    }
 }

@@ -43,23 +43,16 @@ pub fn take(format: usize, slot: usize, xs: &[u8], data: &mut [u8], tfci: &mut [
     }
 }
 
-// .. of a slot of a compressed format's row.
-pub fn take_row(kind: usize, format: usize, xs: &[u8], data: &mut [u8], tfci: &mut [u8]) -> Command
+// .. of a slot of a compressed format's row, where the runs have its lengths; else nothing is taken and the command is 0.
+pub fn take_row(kind: usize, format: usize, xs: &[u8], data: &mut [u8], tfci: &mut [u8]) -> usize
     ensures { λ r. ⌜ TakeRow (formatIn kind format) (now (xs .entry)) (now («data» .entry)) (now (tfci .entry)) r (now («data» .exit)) (now (tfci .exit)) ⌝ }
 {
-    let head = slot::row_head(kind, format, data.len(), tfci.len(), xs.len());
-    if head.number != 0 {
-        return Command {
-            verdict: head,
-            tpc: 0,
-        };
-    }
     let f = dpch_rows::format_in(kind, format);
-    fields::take(f, xs, data, tfci);
-    Command {
-        verdict: head,
-        tpc: fields::command(f, xs),
+    if slot::sizes_are(f, data.len(), tfci.len(), xs.len()) {
+        fields::take(f, xs, data, tfci);
+        return fields::command(f, xs);
     }
+    0
 }
 
 // The fields of a slot, or the refusal and the runs as they were.

@@ -6,9 +6,6 @@ use borrow.Author.Needs.{needs}
 use Rattle.compressed.proofs.gap_head.Statement.{statement}
 use Rattle.compressed.proofs.gap_head.Tie as tie
 
-format-in-requires : tie.Need-format-in-requires
-format-in-requires c κs = search needs
-
 lengths-requires : tie.Need-lengths-requires
 lengths-requires c κs = search needs
 
@@ -31,13 +28,12 @@ returns : tie.Need-returns
 unfolding gapHead
 returns c =
     c .or-else2 .ensures
-    ∙ rw (c .before .unless2 .ensures, c .before .before .before .or-else .ensures, c .before .before .before .before .unless .ensures, c .before .before .before .before .before .gap-stands .ensures, c .before .before .before .before .before .before .lengths .ensures, c .before .before .before .before .before .before .before .format-in .ensures)
+    ∙ rw (c .before .unless2 .ensures, c .before .before .before .or-else .ensures, c .before .before .before .before .unless .ensures, c .before .before .before .before .before .gap-stands .ensures, c .before .before .before .before .before .before .lengths .ensures)
 
 pub gap-head-spec : {M : Type 1} → statement M
 gap-head-spec =
     tie.close
     (tie.spec
-    format-in-requires
     lengths-requires
     gap-stands-requires
     unless-requires

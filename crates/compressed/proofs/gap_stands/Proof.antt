@@ -6,37 +6,30 @@ use borrow.Author.Needs.{needs}
 use Rattle.compressed.proofs.gap_stands.Statement.{statement}
 use Rattle.compressed.proofs.gap_stands.Tie as tie
 
-format-in-requires : tie.Need-format-in-requires
-format-in-requires c κs = search needs
-
 transmitted-requires : tie.Need-transmitted-requires
 transmitted-requires c κs = search needs
 
 returns : tie.Need-returns
 returns c =
-    let f = c .before .before .before .format-in .ensures in
     let t = c .before .before .transmitted .ensures in
-    too-few _ _ _ (rw (f, t) at (c .if1 .taken))
+    too-few _ _ _ (rw t at (c .if1 .taken))
 
 returns-2 : tie.Need-returns-2
 returns-2 c =
-    let f = c .before .before .before .before .before .format-in .ensures in
     let t = c .before .before .before .before .transmitted .ensures in
-    too-many _ _ _ (rw (f, t) at (c .before .before .if1 .left)) (rw (f, t) at (c .if2 .taken))
+    too-many _ _ _ (rw t at (c .before .before .if1 .left)) (rw t at (c .if2 .taken))
 
 returns-3 : tie.Need-returns-3
 returns-3 c =
-    let f = c .before .before .before .before .before .before .format-in .ensures in
     let t = c .before .before .before .before .before .transmitted .ensures in
-    past-all _ _ _ (rw (f, t) at (c .before .before .before .if1 .left)) (rw (f, t) at (c .before .if2 .left)) (c .if3 .taken)
+    past-all _ _ _ (rw t at (c .before .before .before .if1 .left)) (rw t at (c .before .if2 .left)) (c .if3 .taken)
 
 returns-4 : tie.Need-returns-4
 returns-4 c =
-    let f = c .before .before .before .before .before .before .format-in .ensures in
     let t = c .before .before .before .before .before .transmitted .ensures in
-    rw t (ends-by _ _ _ (rw (f, t) at (c .before .before .before .if1 .left)) (rw (f, t) at (c .before .if2 .left)) (c .if3 .left))
+    rw t (ends-by _ _ _ (rw t at (c .before .before .before .if1 .left)) (rw t at (c .before .if2 .left)) (c .if3 .left))
 
 pub gap-stands-spec : {M : Type 1} → statement M
 gap-stands-spec =
     tie.close
-    (tie.spec format-in-requires transmitted-requires returns returns-2 returns-3 returns-4)
+    (tie.spec transmitted-requires returns returns-2 returns-3 returns-4)

@@ -17,10 +17,10 @@ use Rattle.compressed_map.proofs.slots.write.Statement.{statement}
 use Rattle.compressed_map.proofs.slots.write.Tie as tie
 
 abbrev Inv-loop : tie.InvT-loop
-Inv-loop kind format first missing «data» tfci out₀ commands w k₀ out k = (k ≤ 15) × Front (frameOf (formatIn kind format) first missing «data» tfci commands) out₀ out (k * w)
+Inv-loop kind format first missing «data» tfci out₀ commands s w k₀ out k = (k ≤ 15) × Front (frameOf (formatIn kind format) first missing «data» tfci commands) out₀ out (k * w)
 
 abbrev μ-loop : tie.MeasureT-loop
-μ-loop kind format first missing «data» tfci out₀ commands w k₀ out k = 15 - k
+μ-loop kind format first missing «data» tfci out₀ commands s w k₀ out k = 15 - k
 
 row-sizes-requires : tie.Need-row-sizes-requires Inv-loop μ-loop
 row-sizes-requires c κs = search needs
@@ -46,6 +46,7 @@ part-write-slot-end c = omega (arith, part-room (c .before .loop .k) 15 (c .befo
 write-slot-requires : tie.Need-write-slot-requires Inv-loop μ-loop
 write-slot-requires c κs = (
   room-for _ _ _ _ _ _ _ (c .before .before .before .before .before .before .before .before .pre),
+  c .before .before .before .row-sizes .ensures,
   c .before .loop-test .taken,
   lent-part _ _ (c .before .loop-test .taken) (sized 15 (c .before .before .before .row-sizes .ensures .slot-is) (c .before .before .before .before .before .before .before .before .pre .frame-ok)) (c .before .before .loop .inv .1) ∙ c .before .before .before .row-sizes .ensures .slot-is,
 )
