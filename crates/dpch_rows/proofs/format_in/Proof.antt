@@ -10,11 +10,11 @@ use Rattle.dpch_rows.proofs.format_in.Tie as tie
 format-of-requires : tie.Need-format-of-requires
 format-of-requires c κs = search needs
 
-format-a-requires : tie.Need-format-a-requires
-format-a-requires c κs = search needs
+row-a-requires : tie.Need-row-a-requires
+row-a-requires c κs = search needs
 
-format-b-requires : tie.Need-format-b-requires
-format-b-requires c κs = search needs
+row-b-requires : tie.Need-row-b-requires
+row-b-requires c κs = search needs
 
 no-row-requires : tie.Need-no-row-requires
 no-row-requires c κs = search needs
@@ -25,11 +25,11 @@ returns c = c .format-of .ensures ∙ rw (c .before .match .keys1)
 
 returns-2 : tie.Need-returns-2
 unfolding formatIn
-returns-2 c = c .format-a .ensures ∙ rw (c .before .match .keys2)
+returns-2 c = c .row-a .ensures ∙ rw (c .before .match .keys2)
 
 returns-3 : tie.Need-returns-3
 unfolding formatIn
-returns-3 c = c .format-b .ensures ∙ rw (c .before .match .keys3)
+returns-3 c = c .row-b .ensures ∙ rw (c .before .match .keys3)
 
 returns-4 : tie.Need-returns-4
 unfolding formatIn
@@ -42,8 +42,8 @@ format-in-spec =
     tie.close
     (tie.spec
     format-of-requires
-    format-a-requires
-    format-b-requires
+    row-a-requires
+    row-b-requires
     no-row-requires
     returns
     returns-2
