@@ -5,18 +5,19 @@ use mathlib.Core.Bool.{Bool, true, false}
 use mathlib.Core.List.{List}
 use Prim.Native.Nat.{ℕ, _+_, _*_, _≤_, _<_}
 use native.Mathlib.Omega.{arith}
-use borrow.Author.Tests.{eqb-true, eq-eqb, ltb-true, lt-ltb, leb-true}
+use borrow.Author.Tests.{eqb-true, eq-eqb, ne-eqb, ltb-true, lt-ltb, leb-true}
 use lib.Dec.{eqb, leb, ltb, lit<}
 use lib.ListN.{length, getD, replicate, length-replicate, getD-replicate}
 use lib.Seq.{ext-getD}
+use Rattle.run.specs.declared.Verdict.{Verdict}
 use Rattle.run.specs.Digits.{dtx}
-use Rattle.run.specs.First.{Every, all, isAt}
+use Rattle.run.specs.First.{Every, atMost, isAt}
 use Rattle.run.specs.Parts.{part}
-use Rattle.run.specs.Verdicts.{done, Narrow}
+use Rattle.run.specs.Refusals.{digitRefused, frameRefused}
+use Rattle.run.specs.Verdicts.{done, orElse, each, Narrow}
 use Rattle.run.proofs.Bools.{and-left, and-right}
 use Rattle.run.proofs.Chain.{or-else-done, unless-done, or-else-pass, unless-pass, each-done, each-pass, AllRight, lengths-done, lengths-pass, chain-done, check-narrow, lengths-narrow, or-else-narrow, each-narrow}
 use Rattle.run.proofs.Each.{each-same}
-use Rattle.run.proofs.Passing.{all-every}
 use Rattle.run.proofs.Parts.{part-length}
 use Rattle.dpch.specs.declared.Format.{Format}
 use Rattle.slot.specs.Rule.{dataSize}
@@ -26,7 +27,7 @@ use Rattle.slot.proofs.Rows.{command-bit}
 use Rattle.frame.specs.Outcome.{slotDigits}
 use Rattle.compressed.specs.Rule.{isMissing, transmitted, numberOf, gapStands}
 use Rattle.compressed.specs.Outcome.{gapHead, mapHead, mapVerdict, readHead, silentVerdict, slotVerdict, readVerdict}
-use Rattle.compressed.specs.Ready.{Room, Bits}
+use Rattle.compressed.specs.Ready.{Room, Bits, NoneBelow}
 use Rattle.compressed.proofs.Gap.{one-to-one}
 
 -- the gap ends by slot 14
@@ -121,9 +122,22 @@ unfolding silentVerdict
 silent-pass n base =
     or-else-pass (each-pass base 4 _ _ (each-same (λ (x : ℕ). leb x 2) n dtx refl)) (each-pass base 9 _ _ (each-same (λ (x : ℕ). eqb x dtx) n dtx refl))
 
--- .. asked in one look
-pub silent-all : (xs : List ℕ) (base : ℕ) → all (length xs) (isAt dtx xs) ≡ true → silentVerdict xs base ≡ done
-silent-all xs base e = ap (λ (s : List ℕ). silentVerdict s base) (all-dtx xs (all-every (length xs) _ e)) ∙ silent-pass (length xs) base
+-- .. asked one check after the other: a digit above DTX; no digit above and none below; no digit above, and then the first one below
+module _ (xs : List ℕ) (base : ℕ) {v : Verdict} (above : v ≡ each base digitRefused (atMost 2 xs) (length xs)) where
+  pub silent-above : (v .number ≡ 0 → ⊥) → v ≡ silentVerdict xs base
+  unfolding silentVerdict orElse
+  silent-above refused = rw (← above, ne-eqb (v .number) 0 refused)
+
+  module _ (passed : v .number ≡ 0) where
+    pub silent-told : {w : Verdict} → w ≡ each base frameRefused (isAt dtx xs) (length xs) → w ≡ silentVerdict xs base
+    unfolding silentVerdict orElse
+    silent-told told = told ∙ rw (← above, eq-eqb (v .number) 0 passed)
+
+    pub silent-between : {low : ℕ} → NoneBelow low xs → 2 ≤ low → v ≡ silentVerdict xs base
+    silent-between below h =
+        let high = each-done base 4 _ _ (omega arith) (rw above at passed) in
+        let silence = all-dtx xs (λ k l. eq-eqb (getD xs k 0) 2 (let a = leb-true (getD xs k 0) 2 (high k l) in let b = below k l in omega arith)) in
+        above ∙ each-pass base 4 _ _ high ∙ sym (ap (λ (s : List ℕ). silentVerdict s base) silence ∙ silent-pass (length xs) base)
 
 pub silent-narrow : (xs : List ℕ) (base : ℕ) → base + length xs < 4294967296 → Narrow (silentVerdict xs base)
 unfolding silentVerdict

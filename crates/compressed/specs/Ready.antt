@@ -4,6 +4,7 @@ use Prim.Native.Nat.{ℕ, _+_, _*_, _<_, _≤_}
 use mathlib.Core.Path.{_≡_}
 use mathlib.Core.Bool.{true}
 use mathlib.Core.List.{List}
+use lib.ListN.{length, getD}
 use Rattle.run.specs.Parts.{part}
 use Rattle.dpch.specs.declared.Format.{Format}
 use Rattle.slot.specs.declared.Sizes.{Sizes}
@@ -39,3 +40,7 @@ pub record Turn (f : Format) (s : Sizes) (i dataLength tfciLength commandsLength
   pub command-room : i < commandsLength
   pub data-small : i * s .«data» + s .«data» ≤ 20480
   pub tfci-small : i * s .tfci + s .tfci ≤ 20480
+
+-- no digit of a run is below
+abbrev pub NoneBelow : ℕ → List ℕ → Type 0
+NoneBelow low s = (k : ℕ) → k < length s → low ≤ getD s k 0

@@ -2,7 +2,6 @@
 use run::DTX;
 use run::Verdict;
 use run::found;
-use run::or_else;
 use run::refusal;
 use slot::row_sizes;
 ghost use mathlib.Core.Path.{_≡_};
@@ -14,23 +13,35 @@ ghost use Rattle.dpch.specs.Compressed.{formatIn};
 ghost use Rattle.slot.specs.Outcome.{partVerdict};
 ghost use Rattle.compressed.specs.Rule.{isMissing, numberOf, dataIn, tfciIn, commandsIn};
 ghost use Rattle.compressed.specs.Outcome.{silentVerdict, slotVerdict};
-ghost use Rattle.compressed.specs.Ready.{Room, Bits};
+ghost use Rattle.compressed.specs.Ready.{Room, Bits, NoneBelow};
+
+// A digit that none of the run is below. A loop that takes no early way out can go many digits at a time.
+fn lowest(s: &[u8]) -> u8
+    ensures { λ r. ⌜ NoneBelow r (now (s .entry)) ⌝ }
+{
+    let mut low = 255;
+    let mut i = 0;
+    while i < s.len() {
+        if s[i] < low {
+            low = s[i];
+        }
+        i += 1;
+    }
+    low
+}
 
 // The checks of a missing slot's digits, which count their places from `base`. Where all is silent there is no place to look for.
 fn silent_verdict(xs: &[u8], base: u32) -> Verdict
     ensures { λ r. ⌜ r ≡ silentVerdict (now (xs .entry)) base ⌝ }
 {
-    if slot_fits::is_silent(xs) {
-        return Verdict {
-            number: 0,
-            place: 0,
-        };
+    let above = found(xs, scan::first_above(xs, 2), refusal::DIGIT, base);
+    if above.number != 0 {
+        return above;
     }
-    let silence = found(xs, scan::first_other(xs, DTX), refusal::FRAME, base);
-    or_else(
-        found(xs, scan::first_above(xs, 2), refusal::DIGIT, base),
-        silence,
-    )
+    if DTX <= lowest(xs) {
+        return above;
+    }
+    found(xs, scan::first_other(xs, DTX), refusal::FRAME, base)
 }
 
 // .. of slot k, missing or not.

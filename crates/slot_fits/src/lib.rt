@@ -8,7 +8,6 @@ ghost use mathlib.Core.Bool.{_&&_, Bool·beq};
 ghost use Prim.Native.Nat.{_≤_};
 ghost use lib.Dec.{eqb};
 ghost use lib.ListN.{length};
-ghost use Rattle.run.specs.Digits.{dtx};
 ghost use Rattle.run.specs.First.{all, isAt, likeFirst, agree};
 ghost use Rattle.dpch.specs.Formats.{normal, kindB, formatOf};
 ghost use Rattle.dpch.specs.Pilots.{pilotOf};
@@ -197,11 +196,4 @@ pub fn row_fits(kind: usize, format: usize, slot: usize, xs: &[u8]) -> bool
         return false;
     }
     fields_fit(f, slot, xs)
-}
-
-// Whether all digits are DTX, as in a slot that is not sent.
-pub fn is_silent(s: &[u8]) -> bool
-    ensures { λ r. ⌜ r ≡ all (length (now (s .entry))) (isAt dtx (now (s .entry))) ⌝ }
-{
-    all_are(s, DTX, s.len())
 }
