@@ -1,32 +1,55 @@
--- What the rows of compressed frames are made of: the fields of a normal row are small, and B ends before 16.
+-- The rows of compressed frames and the normal ones: by the rule that pins the printed rows.
 -- Assumes nothing.
-use mathlib.Core.Path.{_≡_}
-use Prim.Native.Nat.{ℕ, _≤_, _<_}
+use mathlib.Core.Path.{_≡_, refl, sym, ap, _∙_}
+use mathlib.Core.Bool.{true, false, cond}
+use Prim.Native.Nat.{ℕ, zero, suc, _-_, _*_, _≤_, _<_}
+use native.Mathlib.Nat.{not-suc-le-zero, mul-le-mul-right}
 use native.Mathlib.Omega.{arith}
-use lib.ListN.{List·getD-eq-default}
+use borrow.Author.Tests.{eqb-true, eqb-false}
+use lib.Dec.{eqb}
 use Rattle.run.specs.Fields.{total}
 use Rattle.dpch.specs.declared.Format.{Format}
-use Rattle.dpch.specs.Formats.{kindB, noRow, formatOf}
-use Rattle.dpch.specs.Compressed.{formatsB, formatIn}
+use Rattle.dpch.specs.Formats.{kindA, kindB, noRow, formatOf}
+use Rattle.dpch.specs.Compressed.{compressedRow, formatIn}
+use Rattle.dpch.specs.Exact.{asA, asB}
 use Rattle.dpch.proofs.Exact.{format-sizes, normal-fill, pinned}
+use Rattle.dpch_rows.specs.Ready.{Beside}
 
--- no field is longer than the slot, and Data2 can give up as many digits as the TFCI has
-pub record Small (f : Format) : Type 0 where
-  pub data1 : f .data1 ≤ 1280
-  pub data2 : f .data2 ≤ 1280
-  pub tpc : f .tpc ≤ 1280
-  pub tfci : f .tfci ≤ 1280
-  pub pilot : f .pilot ≤ 1280
-  pub slot : f .slot ≤ 1280
-  pub gives-up : f .tfci ≤ f .data2
+-- a kind that is A or B
+a-or-b : (P : ℕ → Type 0) → P 1 → P 2 → (kind : ℕ) → 0 < kind → kind ≤ 2 → P kind
+a-or-b P a b zero some most = absurd (not-suc-le-zero some)
+a-or-b P a b (suc zero) some most = a
+a-or-b P a b (suc (suc zero)) some most = b
+a-or-b P a b (suc (suc (suc n))) some most = absurd (let z : ⊥ = omega arith in z)
 
-pub small : (n : ℕ) {f : Format} → f ≡ formatOf n → Small f
+-- a field once or twice
+pub times : (kind x : ℕ) → kind ≤ 2 → x ≤ 1280 → kind * x ≤ 2560
+times kind x h small = let r = mul-le-mul-right x h in omega arith
+
+module _ (kind : ℕ) (f : Format) (b : Beside kind f) where
+  pub gives-up : (2 - kind) * f .tfci ≤ kind * f .data2
+  gives-up = let h = b .gives-up in a-or-b (λ (k : ℕ). (2 - k) * f .tfci ≤ k * f .data2) (omega arith) (omega arith) kind (b .some) (b .most)
+
+  pub beside-is : compressedRow kind (kind * f .data1) (kind * f .data2 - (2 - kind) * f .tfci) (kind * f .tpc) (2 * f .tfci) (kind * f .pilot) (kind * f .slot)
+      ≡ cond (eqb kind kindA) (asA f) (asB f)
+  beside-is =
+      a-or-b
+      (λ (k : ℕ). compressedRow k (k * f .data1) (k * f .data2 - (2 - k) * f .tfci) (k * f .tpc) (2 * f .tfci) (k * f .pilot) (k * f .slot) ≡ cond (eqb k kindA) (asA f) (asB f))
+      (same (omega arith) (omega arith) (omega arith) (omega arith) (omega arith)) (same refl (omega arith) refl refl refl) kind (b .some) (b .most)
+    where
+      same : {k a d c t p s x y z u v : ℕ} → a ≡ x → d ≡ y → c ≡ z → p ≡ u → s ≡ v → compressedRow k a d c t p s ≡ compressedRow k x y z t u v
+      same {k} {a} {d} {c} {t} {p} {s} e1 e2 e3 e4 e5 = λ i. compressedRow k (e1 i) (e2 i) (e3 i) t (e4 i) (e5 i)
+
+-- a normal row is small enough, and Data2 has as many digits as the TFCI
+pub beside : (kind n : ℕ) {f : Format} → (kind ≡ 0 → ⊥) → kind ≤ 2 → f ≡ formatOf n → Beside kind f
 unfolding total
-small n e =
+beside kind n some most e =
     let fills = normal-fill n in
     let short = format-sizes n .short in
     rw e
     (record {
+      some = above kind some;
+      most = most;
       data1 = omega arith;
       data2 = omega arith;
       tpc = omega arith;
@@ -35,7 +58,19 @@ small n e =
       slot = short;
       gives-up = pinned .gives-up n;
     })
+  where
+    above : (k : ℕ) → (k ≡ 0 → ⊥) → 0 < k
+    above zero h = absurd (h refl)
+    above (suc k) h = omega arith
 
-pub past-b : (n : ℕ) → 15 < n → formatIn kindB n ≡ noRow
-unfolding formatIn formatsB
-past-b n h = List·getD-eq-default formatsB noRow h
+module _ (kind n : ℕ) {f : Format} (b : Beside kind f) where
+  pub lacking : cond (eqb kind kindA) (eqb n 1) (eqb n 16) ≡ true → formatIn kind n ≡ noRow
+  lacking =
+      a-or-b (λ (k : ℕ). cond (eqb k kindA) (eqb n 1) (eqb n 16) ≡ true → formatIn k n ≡ noRow)
+      (λ e. ap (formatIn 1) (eqb-true n 1 e) ∙ pinned .no-1A) (λ e. ap (formatIn 2) (eqb-true n 16 e) ∙ pinned .no-16B) kind (b .some) (b .most)
+
+  pub there : n ≤ 16 → cond (eqb kind kindA) (eqb n 1) (eqb n 16) ≡ false → f ≡ formatOf n → cond (eqb kind kindA) (asA f) (asB f) ≡ formatIn kind n
+  there h =
+      a-or-b (λ (k : ℕ). cond (eqb k kindA) (eqb n 1) (eqb n 16) ≡ false → f ≡ formatOf n → cond (eqb k kindA) (asA f) (asB f) ≡ formatIn k n)
+      (λ e is. ap asA is ∙ sym (pinned .a-is n h (eqb-false n 1 e)))
+      (λ e is. ap asB is ∙ sym (pinned .b-is n (let other = eqb-false n 16 e in omega (arith, other)))) kind (b .some) (b .most)

@@ -3,53 +3,39 @@
 use dpch::Format;
 use dpch::KIND_A;
 use dpch::KIND_B;
+use dpch::NORMAL;
 use dpch::format_of;
 use dpch::no_row;
 ghost use mathlib.Core.Path.{_≡_};
-ghost use Rattle.dpch.specs.Formats.{kindA, kindB};
+ghost use mathlib.Core.Bool.{cond};
+ghost use lib.Dec.{eqb};
+ghost use Rattle.dpch.specs.Formats.{kindA};
 ghost use Rattle.dpch.specs.Pilots.{pilotRow};
 ghost use Rattle.dpch.specs.Compressed.{formatIn, pairsTwice};
+ghost use Rattle.dpch.specs.Exact.{asA, asB};
+ghost use Rattle.dpch_rows.specs.Ready.{Beside};
 
-// Row A of a number: the normal one with its TFCI doubled, and as many digits given up by Data2. There is no 1A.
-fn row_a(n: usize) -> Format
-    ensures { λ r. ⌜ r ≡ formatIn kindA n ⌝ }
+// The table has no 1A and no 16B.
+fn is_lacking(kind: usize, n: usize) -> bool
+    ensures { λ r. ⌜ r ≡ cond (eqb kind kindA) (eqb n 1) (eqb n 16) ⌝ }
 {
-    if n == 1 {
-        return no_row();
-    }
-    if 16 < n {
-        return no_row();
-    }
-    let f = format_of(n);
-    Format {
-        data1: f.data1,
-        data2: f.data2 - f.tfci,
-        tpc: f.tpc,
-        tfci: 2 * f.tfci,
-        pilot: f.pilot,
-        slot: f.slot,
-        kind: KIND_A,
-        fewest: 8,
-        most: 14,
-    }
+    if kind == KIND_A { n == 1 } else { n == 16 }
 }
 
-// Row B: the normal one with every field, and so the slot, doubled. There is no 16B.
-fn row_b(n: usize) -> Format
-    ensures { λ r. ⌜ r ≡ formatIn kindB n ⌝ }
+// The row of kind A or B beside a normal one: A has its fields once, B twice. In both the TFCI is doubled, and in A Data2 gives up as many digits. It is one row of
+// products, with no choice in it, so that the caller's loops need not make it again for each slot.
+fn row_beside(kind: usize, f: Format) -> Format
+    requires { ⌜ Beside kind f ⌝ }
+    ensures { λ r. ⌜ r ≡ cond (eqb kind kindA) (asA f) (asB f) ⌝ }
 {
-    if 15 < n {
-        return no_row();
-    }
-    let f = format_of(n);
     Format {
-        data1: 2 * f.data1,
-        data2: 2 * f.data2,
-        tpc: 2 * f.tpc,
+        data1: kind * f.data1,
+        data2: kind * f.data2 - (2 - kind) * f.tfci,
+        tpc: kind * f.tpc,
         tfci: 2 * f.tfci,
-        pilot: 2 * f.pilot,
-        slot: 2 * f.slot,
-        kind: KIND_B,
+        pilot: kind * f.pilot,
+        slot: kind * f.slot,
+        kind,
         fewest: 8,
         most: 14,
     }
@@ -59,12 +45,20 @@ fn row_b(n: usize) -> Format
 pub fn format_in(kind: usize, n: usize) -> Format
     ensures { λ r. ⌜ r ≡ formatIn kind n ⌝ }
 {
-    match kind {
-        0 => format_of(n),
-        1 => row_a(n),
-        2 => row_b(n),
-        _ => no_row(),
+    let f = format_of(n);
+    if kind == NORMAL {
+        return f;
     }
+    if KIND_B < kind {
+        return no_row();
+    }
+    if 16 < n {
+        return no_row();
+    }
+    if is_lacking(kind, n) {
+        return no_row();
+    }
+    row_beside(kind, f)
 }
 
 // The pilot bits of a slot, each pair twice.

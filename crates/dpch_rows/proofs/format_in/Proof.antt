@@ -1,51 +1,63 @@
 -- `dpch_rows::format_in` meets its contract.
 -- Assumes nothing.
-use mathlib.Core.Path.{_∙_}
+use mathlib.Core.Path.{sym, _∙_}
 use borrow.Author.Needs.{needs}
-use borrow.Author.Tests.{ne-eqb}
 use Rattle.dpch.specs.Compressed.{formatIn}
+use Rattle.dpch.proofs.Exact.{pinned}
+use Rattle.dpch_rows.proofs.Laws.{beside, lacking, there}
 use Rattle.dpch_rows.proofs.format_in.Statement.{statement}
 use Rattle.dpch_rows.proofs.format_in.Tie as tie
 
 format-of-requires : tie.Need-format-of-requires
 format-of-requires c κs = search needs
 
-row-a-requires : tie.Need-row-a-requires
-row-a-requires c κs = search needs
-
-row-b-requires : tie.Need-row-b-requires
-row-b-requires c κs = search needs
+returns : tie.Need-returns
+unfolding formatIn
+returns c = c .before .format-of .ensures ∙ rw (c .if1 .taken)
 
 no-row-requires : tie.Need-no-row-requires
 no-row-requires c κs = search needs
 
-returns : tie.Need-returns
-unfolding formatIn
-returns c = c .format-of .ensures ∙ rw (c .before .match .keys1)
-
 returns-2 : tie.Need-returns-2
-unfolding formatIn
-returns-2 c = c .row-a .ensures ∙ rw (c .before .match .keys2)
+returns-2 c = c .no-row .ensures ∙ sym (pinned .no-kind _ _ (c .before .if2 .taken))
+
+no-row-requires-2 : tie.Need-no-row-requires-2
+no-row-requires-2 c κs = search needs
 
 returns-3 : tie.Need-returns-3
-unfolding formatIn
-returns-3 c = c .row-b .ensures ∙ rw (c .before .match .keys3)
+returns-3 c = c .no-row2 .ensures ∙ sym (pinned .no-number _ _ (c .before .if3 .taken))
+
+is-lacking-requires : tie.Need-is-lacking-requires
+is-lacking-requires c κs = search needs
+
+no-row-requires-3 : tie.Need-no-row-requires-3
+no-row-requires-3 c κs = search needs
 
 returns-4 : tie.Need-returns-4
-unfolding formatIn
 returns-4 c =
-    let r = c .before .match .rest in
-    c .no-row .ensures ∙ rw (ne-eqb _ 0 (r .0 .0 .1), ne-eqb _ 1 (r .0 .1), ne-eqb _ 2 (r .1))
+    let row = beside _ _ (c .before .before .before .before .before .if1 .left) (c .before .before .before .before .if2 .left) (c .before .before .before .before .before .before .format-of .ensures) in
+    c .no-row3 .ensures ∙ sym (lacking _ _ row (sym (c .before .before .is-lacking .ensures) ∙ c .before .if4 .taken))
+
+row-beside-requires : tie.Need-row-beside-requires
+row-beside-requires c κs = beside _ _ (c .before .before .before .before .if1 .left) (c .before .before .before .if2 .left) (c .before .before .before .before .before .format-of .ensures)
+
+returns-5 : tie.Need-returns-5
+returns-5 c =
+    let row = beside _ _ (c .before .before .before .before .before .if1 .left) (c .before .before .before .before .if2 .left) (c .before .before .before .before .before .before .format-of .ensures) in
+    c .row-beside .ensures ∙ there _ _ row (c .before .before .before .if3 .left) (sym (c .before .before .is-lacking .ensures) ∙ c .before .if4 .left) (c .before .before .before .before .before .before .format-of .ensures)
 
 pub format-in-spec : {M : Type 1} → statement M
 format-in-spec =
     tie.close
     (tie.spec
     format-of-requires
-    row-a-requires
-    row-b-requires
-    no-row-requires
     returns
+    no-row-requires
     returns-2
+    no-row-requires-2
     returns-3
-    returns-4)
+    is-lacking-requires
+    no-row-requires-3
+    returns-4
+    row-beside-requires
+    returns-5)
