@@ -65,7 +65,7 @@ fn row(data1: usize, data2: usize, tpc: usize, tfci: usize, pilot: usize, slot: 
 }
 
 // Where the table has no row.
-pub fn no_row() -> Format
+fn no_row() -> Format
     ensures { λ r. ⌜ r ≡ noRow ⌝ }
 {
     Format {

@@ -9,11 +9,16 @@ use borrow.Author.Tests.{eqb-true, eqb-false}
 use lib.Dec.{eqb}
 use Rattle.run.specs.Fields.{total}
 use Rattle.dpch.specs.declared.Format.{Format}
-use Rattle.dpch.specs.Formats.{kindA, kindB, noRow, formatOf}
+use Rattle.dpch.specs.Formats.{kindA, noRow, formats, formatOf}
 use Rattle.dpch.specs.Compressed.{compressedRow, formatIn}
 use Rattle.dpch.specs.Exact.{asA, asB}
 use Rattle.dpch.proofs.Exact.{format-sizes, normal-fill, pinned}
 use Rattle.dpch_rows.specs.Ready.{Beside}
+
+-- no kind has a row 17
+pub none : formatOf 17 ≡ noRow
+unfolding formatOf formats
+none = refl
 
 -- a kind that is A or B
 a-or-b : (P : ℕ → Type 0) → P 1 → P 2 → (kind : ℕ) → 0 < kind → kind ≤ 2 → P kind

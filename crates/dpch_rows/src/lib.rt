@@ -5,7 +5,6 @@ use dpch::KIND_A;
 use dpch::KIND_B;
 use dpch::NORMAL;
 use dpch::format_of;
-use dpch::no_row;
 ghost use mathlib.Core.Path.{_≡_};
 ghost use mathlib.Core.Bool.{cond};
 ghost use lib.Dec.{eqb};
@@ -14,6 +13,9 @@ ghost use Rattle.dpch.specs.Pilots.{pilotRow};
 ghost use Rattle.dpch.specs.Compressed.{formatIn, pairsTwice};
 ghost use Rattle.dpch.specs.Exact.{asA, asB};
 ghost use Rattle.dpch_rows.specs.Ready.{Beside};
+
+// A number that the table lacks in every kind: its row is all zeros.
+const NONE: usize = 17;
 
 // The table has no 1A and no 16B.
 fn is_lacking(kind: usize, n: usize) -> bool
@@ -50,13 +52,13 @@ pub fn format_in(kind: usize, n: usize) -> Format
         return f;
     }
     if KIND_B < kind {
-        return no_row();
+        return format_of(NONE);
     }
     if 16 < n {
-        return no_row();
+        return format_of(NONE);
     }
     if is_lacking(kind, n) {
-        return no_row();
+        return format_of(NONE);
     }
     row_beside(kind, f)
 }

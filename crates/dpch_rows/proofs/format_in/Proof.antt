@@ -4,7 +4,7 @@ use mathlib.Core.Path.{sym, _∙_}
 use borrow.Author.Needs.{needs}
 use Rattle.dpch.specs.Compressed.{formatIn}
 use Rattle.dpch.proofs.Exact.{pinned}
-use Rattle.dpch_rows.proofs.Laws.{beside, lacking, there}
+use Rattle.dpch_rows.proofs.Laws.{none, beside, lacking, there}
 use Rattle.dpch_rows.proofs.format_in.Statement.{statement}
 use Rattle.dpch_rows.proofs.format_in.Tie as tie
 
@@ -15,28 +15,28 @@ returns : tie.Need-returns
 unfolding formatIn
 returns c = c .before .format-of .ensures ∙ rw (c .if1 .taken)
 
-no-row-requires : tie.Need-no-row-requires
-no-row-requires c κs = search needs
+format-of-requires-2 : tie.Need-format-of-requires-2
+format-of-requires-2 c κs = search needs
 
 returns-2 : tie.Need-returns-2
-returns-2 c = c .no-row .ensures ∙ sym (pinned .no-kind _ _ (c .before .if2 .taken))
+returns-2 c = c .format-of2 .ensures ∙ none ∙ sym (pinned .no-kind _ _ (c .before .if2 .taken))
 
-no-row-requires-2 : tie.Need-no-row-requires-2
-no-row-requires-2 c κs = search needs
+format-of-requires-3 : tie.Need-format-of-requires-3
+format-of-requires-3 c κs = search needs
 
 returns-3 : tie.Need-returns-3
-returns-3 c = c .no-row2 .ensures ∙ sym (pinned .no-number _ _ (c .before .if3 .taken))
+returns-3 c = c .format-of3 .ensures ∙ none ∙ sym (pinned .no-number _ _ (c .before .if3 .taken))
 
 is-lacking-requires : tie.Need-is-lacking-requires
 is-lacking-requires c κs = search needs
 
-no-row-requires-3 : tie.Need-no-row-requires-3
-no-row-requires-3 c κs = search needs
+format-of-requires-4 : tie.Need-format-of-requires-4
+format-of-requires-4 c κs = search needs
 
 returns-4 : tie.Need-returns-4
 returns-4 c =
     let row = beside _ _ (c .before .before .before .before .before .if1 .left) (c .before .before .before .before .if2 .left) (c .before .before .before .before .before .before .format-of .ensures) in
-    c .no-row3 .ensures ∙ sym (lacking _ _ row (sym (c .before .before .is-lacking .ensures) ∙ c .before .if4 .taken))
+    c .format-of4 .ensures ∙ none ∙ sym (lacking _ _ row (sym (c .before .before .is-lacking .ensures) ∙ c .before .if4 .taken))
 
 row-beside-requires : tie.Need-row-beside-requires
 row-beside-requires c κs = beside _ _ (c .before .before .before .before .if1 .left) (c .before .before .before .if2 .left) (c .before .before .before .before .before .format-of .ensures)
@@ -52,12 +52,12 @@ format-in-spec =
     (tie.spec
     format-of-requires
     returns
-    no-row-requires
+    format-of-requires-2
     returns-2
-    no-row-requires-2
+    format-of-requires-3
     returns-3
     is-lacking-requires
-    no-row-requires-3
+    format-of-requires-4
     returns-4
     row-beside-requires
     returns-5)
