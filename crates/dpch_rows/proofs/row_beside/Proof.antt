@@ -26,7 +26,7 @@ mul-t8 : tie.Need-mul-t8
 mul-t8 c = let p = c .before .before .before .before .pre in omega (arith, times _ _ (p .most) (p .tpc))
 
 mul-t9 : tie.Need-mul-t9
-mul-t9 c = search needs
+mul-t9 c = let p = c .before .before .before .before .before .pre in omega (arith, p .tfci, times _ _ (p .most) (p .tfci))
 
 mul-t10 : tie.Need-mul-t10
 mul-t10 c = let p = c .before .before .before .before .before .before .pre in omega (arith, times _ _ (p .most) (p .pilot))
