@@ -45,13 +45,13 @@ def bar(y, label, fields, length):
     yield svg.text(LEFT + WIDE + 10, y + 12, f"{length}{parts}", 11, "start")
 
 
-def formats(y, title, slots, *notes):
+def formats(y, title, slots, labels, *notes):
     """A table of formats: a bar for each."""
     order = [field for field, count in slots[0][0]]
     yield from heading(y, title, *notes)
     yield from legend(y + 58, order)
     for number, (fields, length) in enumerate(slots):
-        yield from bar(y + HEAD + ROW * number, f"format {number}", fields, length)
+        yield from bar(y + HEAD + ROW * number, f"format {labels[number]}", fields, length)
 
 
 def pich(y, length, tail, numbers):
@@ -100,17 +100,21 @@ def pccpch(y, slot, data, silent, block):
 
 
 def draw(tree):
+    numbered = range(len(slot_specs.slots(tree, slot_specs.DPCH)))
     tables = (
-        ("Downlink DPCH: the fields of a slot", slot_specs.slots(tree, slot_specs.DPCH),
+        ("Downlink DPCH: the fields of a slot", slot_specs.slots(tree, slot_specs.DPCH), numbered,
          "Each bar is one slot, drawn over the full width whatever its length: a digit is wide in a short slot and narrow in a long one.",
          "At the right stand the digits of the slot and those of its fields, in their order."),
-        ("Uplink DPDCH: the only field of a slot", slot_specs.dpdch(tree), "As above. A slot is its data, whichever slot of the frame it is; nothing is DTX."),
-        ("Uplink DPCCH: the fields of a slot", slot_specs.slots(tree, slot_specs.DPCCH), "As above. Every slot has ten digits; the pilot stands first, the TPC command last."),
+        ("Downlink DPCH in compressed frames: the fields of a slot", slot_specs.compressed_slots(tree), list(slot_specs.compressed(tree)),
+         "As above. A has twice the TFCI digits of the normal format, and Data2 gives up as many; in B every field is doubled. 8 to 14 slots of a frame",
+         "are transmitted, and the missing ones are all DTX."),
+        ("Uplink DPDCH: the only field of a slot", slot_specs.dpdch(tree), numbered, "As above. A slot is its data, whichever slot of the frame it is; nothing is DTX."),
+        ("Uplink DPCCH: the fields of a slot", slot_specs.slots(tree, slot_specs.DPCCH), numbered, "As above. Every slot has ten digits; the pilot stands first, the TPC command last."),
     )
     length, tail, numbers = slot_specs.pich(tree)
     parts, y = [], 28
-    for title, slots, *notes in tables:
-        parts += formats(y, title, slots, *notes)
+    for title, slots, labels, *notes in tables:
+        parts += formats(y, title, slots, labels, *notes)
         y += HEAD + ROW * len(slots) + 36
     parts += pich(y, length, tail, numbers)
     y += 46 + ROW * len(numbers) + 44

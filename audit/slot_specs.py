@@ -4,8 +4,8 @@ A reader that does not find the form of words it looks for says so: the spec has
 """
 import re
 
-FORMATS, UPLINK, PILOTS, PICH, PCCPCH, STTD = (f"crates/{name}.antt" for name in (
-    "dpch/specs/Formats", "dpch/specs/Uplink", "dpch/specs/UplinkPilots", "pich/specs/Rule", "pccpch/specs/Rule", "sttd/specs/Rule"))
+FORMATS, COMPRESSED, UPLINK, PILOTS, PICH, PCCPCH, STTD = (f"crates/{name}.antt" for name in (
+    "dpch/specs/Formats", "dpch/specs/Compressed", "dpch/specs/Uplink", "dpch/specs/UplinkPilots", "pich/specs/Rule", "pccpch/specs/Rule", "sttd/specs/Rule"))
 # The tables of formats: the file, the table's name, the definition of its rows and that of the fields' order.
 DPCH, DPCCH = (FORMATS, "formats", "row", "widths"), (UPLINK, "dpcchFormats", "dpcchRow", "dpcchWidths")
 
@@ -36,13 +36,36 @@ def fields(tree, path, name, row, widths):
     return re.findall(r"f \.(\w+)", found(tree, path, rf"^{widths} f = (.*?)$")[1])
 
 
+def filled(path, order, row):
+    """A row as the list of its fields and widths, and its length. The fields must fill the slot."""
+    if sum(row[field] for field in order) != row["slot"]:
+        raise Unread(f"{path}: the fields of {row} do not fill its slot")
+    return [(field, row[field]) for field in order], row["slot"]
+
+
 def slots(tree, table):
-    """Each format of a table as the list of its fields and widths, and its length. The fields must fill the slot."""
-    path, order, rows = table[0], fields(tree, *table), listed(tree, *table)
-    for row in rows:
-        if sum(row[field] for field in order) != row["slot"]:
-            raise Unread(f"{path}: the fields of {row} do not fill its slot")
-    return [([(field, row[field]) for field in order], row["slot"]) for row in rows]
+    """So each format of a table."""
+    order = fields(tree, *table)
+    return [filled(table[0], order, row) for row in listed(tree, *table)]
+
+
+def compressed(tree):
+    """The rows of compressed frames by their names, 0A, 0B, 1B and so on; noRow stands where the table has none. The last two columns are the slots that are transmitted,
+    at least and at most."""
+    columns, fewest, most = found(tree, COMPRESSED, r"^compressedRow kind ([\w ]+) =\n[^\n]*fewest = (\d+); most = (\d+) }$").groups()
+    rows = {}
+    for letter in "AB":
+        table = found(tree, COMPRESSED, rf"^formats{letter} =\n(.*?)\[\]$")[1]
+        for number, line in enumerate(re.findall(rf"(noRow|row{letter} (?:\d+ ?)+)$", table, re.M)):
+            if line != "noRow":
+                rows[f"{number}{letter}"] = dict(zip(columns.split(), map(int, line.split()[1:]), strict=True), fewest=int(fewest), most=int(most))
+    return dict(sorted(rows.items(), key=lambda row: (int(row[0][:-1]), row[0][-1])))
+
+
+def compressed_slots(tree):
+    """So each of them, in the order of the normal formats' fields."""
+    order = fields(tree, *DPCH)
+    return [filled(COMPRESSED, order, row) for row in compressed(tree).values()]
 
 
 def dpdch(tree):

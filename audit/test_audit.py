@@ -52,6 +52,8 @@ PLANTS = (
     ("a number of a picture", "crates/dpch/specs/Formats.antt", "row 0 4 2 0 4 10", "row 0 2 4 0 4 10", ""),
     ("a form that a picture reads", "crates/pich/specs/Rule.antt", "width np = 288 / np", "width np = 288 / (np + 0)", "docs/slots.svg"),
     ("a format of the rules", "docs/RULES.md", "\n| 9 | 6 | 26 |", "\n| 9 | 6 | 24 |", "docs/RULES.md"),
+    ("a compressed format of the rules", "docs/RULES.md", "\n| 7B | 4 | 12 |", "\n| 7B | 4 | 16 |", "docs/RULES.md"),
+    ("a compressed format of the specs", "crates/dpch/specs/Compressed.antt", "rowA 6 24 2 0 8 40", "rowA 8 22 2 0 8 40", ""),
     ("a format of the uplink in the rules", "docs/RULES.md", "\n| 2 | 5 | 2 | 1 | 2 | 10 |", "\n| 2 | 5 | 1 | 2 | 2 | 10 |", "docs/RULES.md"),
     ("a pilot bit in the rules", "docs/RULES.md", "| 00110 | 100110 | 1001101 |", "| 00110 | 100110 | 1001100 |", "docs/RULES.md"),
     ("a pilot bit in the specs", "crates/dpch/specs/UplinkPilots.antt", "(1 ∷ 1 ∷ 1 ∷ 1 ∷ 1 ∷ 0 ∷ 1 ∷ 1", "(1 ∷ 1 ∷ 1 ∷ 1 ∷ 1 ∷ 0 ∷ 0 ∷ 1", "docs/RULES.md"),

@@ -7,6 +7,7 @@ int main(int n_arguments, char **arguments) {
     bench_dpch();
     bench_antenna();
     bench_frame();
+    bench_compressed();
     bench_dpdch();
     bench_dpcch();
     bench_pich();

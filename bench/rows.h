@@ -5,6 +5,7 @@
 void bench_dpch(void);
 void bench_antenna(void);
 void bench_frame(void);
+void bench_compressed(void);
 void bench_dpdch(void);
 void bench_dpcch(void);
 void bench_pich(void);

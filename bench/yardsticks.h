@@ -25,6 +25,12 @@
                                uint8_t *out, size_t n_out, const uint8_t *commands, size_t n_commands);                         \
     uint64_t whose##_frame_read(size_t format, const uint8_t *frame, size_t n_frame, uint8_t *data, size_t n_data,              \
                                 uint8_t *tfci, size_t n_tfci, uint8_t *commands, size_t n_commands);                            \
+    uint64_t whose##_compressed_map(size_t format, size_t kind, size_t first, size_t missing, const uint8_t *data,              \
+                                    size_t n_data, const uint8_t *tfci, size_t n_tfci, uint8_t *out, size_t n_out,              \
+                                    const uint8_t *commands, size_t n_commands);                                                \
+    uint64_t whose##_compressed_read(size_t format, size_t kind, size_t first, size_t missing, const uint8_t *frame,            \
+                                     size_t n_frame, uint8_t *data, size_t n_data, uint8_t *tfci, size_t n_tfci,                \
+                                     uint8_t *commands, size_t n_commands);                                                     \
     uint64_t whose##_dpdch_map(size_t format, const uint8_t *data, size_t n_data, uint8_t *out, size_t n_out);                  \
     uint64_t whose##_dpdch_read(size_t format, const uint8_t *run, size_t n_run, uint8_t *data, size_t n_data);                 \
     uint64_t whose##_dpdch_frame_map(size_t format, const uint8_t *data, size_t n_data, uint8_t *out, size_t n_out);            \

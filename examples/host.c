@@ -103,6 +103,43 @@ static int two_antennas(void) {
     return 0;
 }
 
+/* A compressed frame of format 0B with slots 4 to 6 missing, read back, and with a digit sent in the gap; and a gap that runs past slot 14. */
+static int compressed(void) {
+    enum { FORMAT = 0, KIND_B = 2, FIRST = 4, MISSING = 3, SENT = 15 - MISSING, SLOT = 20 };
+    const uint8_t commands[SENT] = {0, 1, 1, 0, 1, 0, 0, 0, 1, 1, 1, 0};
+    uint8_t data[SENT * 8], frame[15 * SLOT], data_back[sizeof data], commands_back[SENT];
+    for (size_t i = 0; i < sizeof data; i++) {
+        data[i] = i % 3;
+    }
+
+    uint64_t mapped = slt_compressed_map(FORMAT, KIND_B, FIRST, MISSING, data, sizeof data, NULL, 0, frame, sizeof frame,
+                                         commands, sizeof commands);
+    print_answer("slt_compressed_map", mapped);
+    if (SLT_NUMBER(mapped) != SLT_DONE) {
+        return 1;
+    }
+    for (size_t slot = FIRST - 1; slot <= FIRST + MISSING; slot++) {
+        print_digits("slot", frame + slot * SLOT, SLOT);
+    }
+
+    uint64_t read = slt_compressed_read(FORMAT, KIND_B, FIRST, MISSING, frame, sizeof frame, data_back, sizeof data_back, NULL,
+                                        0, commands_back, sizeof commands_back);
+    print_answer("slt_compressed_read", read);
+    if (SLT_NUMBER(read) != SLT_DONE || memcmp(data, data_back, sizeof data) != 0 ||
+        memcmp(commands, commands_back, sizeof commands) != 0) {
+        return 1;
+    }
+
+    frame[5 * SLOT + 7] = 0;
+    print_answer("slt_compressed_read of a digit in the gap",
+                 slt_compressed_read(FORMAT, KIND_B, FIRST, MISSING, frame, sizeof frame, data_back, sizeof data_back, NULL, 0,
+                                     commands_back, sizeof commands_back));
+    print_answer("slt_compressed_map past slot 14",
+                 slt_compressed_map(FORMAT, KIND_B, 13, MISSING, data, sizeof data, NULL, 0, frame, sizeof frame, commands,
+                                    sizeof commands));
+    return 0;
+}
+
 /* An uplink control slot of format 2 from its fields, read back, and read as another slot; then ten digits of uplink data. */
 static int uplink(void) {
     const uint8_t tfci[2] = {0, 1}, fbi[1] = {1}, data[10] = {0, 1, 1, 0, 0, 1, 0, 1, 1, 1};
@@ -130,5 +167,5 @@ static int uplink(void) {
 }
 
 int main(void) {
-    return paging() || slot() || two_antennas() || uplink();
+    return paging() || slot() || two_antennas() || compressed() || uplink();
 }

@@ -76,6 +76,16 @@ static void frame_read(struct test *t) {
                             n(t, 3));
 }
 
+static void compressed_map(struct test *t) {
+    t->got = slt_compressed_map(t->given[0], t->given[1], t->given[2], t->given[3], digits(t, 0), n(t, 0), digits(t, 1), n(t, 1),
+                                digits(t, 2), n(t, 2), digits(t, 3), n(t, 3));
+}
+
+static void compressed_read(struct test *t) {
+    t->got = slt_compressed_read(t->given[0], t->given[1], t->given[2], t->given[3], digits(t, 0), n(t, 0), digits(t, 1), n(t, 1),
+                                 digits(t, 2), n(t, 2), digits(t, 3), n(t, 3));
+}
+
 static void dpdch_map(struct test *t) {
     t->got = slt_dpdch_map(t->given[0], digits(t, 0), n(t, 0), digits(t, 1), n(t, 1));
 }
@@ -170,6 +180,8 @@ const struct call calls[] = {
     {"slt_slot_read_antennas", 2, "1111", slot_read_antennas},
     {"slt_frame_map", 1, "1111", frame_map},
     {"slt_frame_read", 1, "1111", frame_read},
+    {"slt_compressed_map", 4, "1111", compressed_map},
+    {"slt_compressed_read", 4, "1111", compressed_read},
     {"slt_dpdch_map", 1, "11", dpdch_map},
     {"slt_dpdch_read", 1, "11", dpdch_read},
     {"slt_dpdch_frame_map", 1, "11", dpdch_frame_map},

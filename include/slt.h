@@ -33,7 +33,7 @@ extern "C" {
 
 /* The numbers of a refusal. */
 #define SLT_DONE 0u
-#define SLT_REFUSED_FORMAT 1u  /* a format that the channel's own table lacks: DPCH above 16, DPDCH above 6, DPCCH above 3 */
+#define SLT_REFUSED_FORMAT 1u  /* a format that the channel's own table lacks: DPCH above 16, DPDCH above 6, DPCCH above 3; of a compressed frame, a kind that it lacks */
 #define SLT_REFUSED_SLOT 2u    /* slot number above 14 */
 #define SLT_REFUSED_LENGTH 3u  /* a lent run has the wrong length; the place says which run */
 #define SLT_REFUSED_DIGIT 4u   /* digit not allowed */
@@ -41,7 +41,7 @@ extern "C" {
 #define SLT_REFUSED_TFCI 6u    /* TFCI digits mixed, some bits and some DTX; no call of the uplink gives it */
 #define SLT_REFUSED_PILOT 7u   /* pilot differs from the table */
 #define SLT_REFUSED_NP 8u      /* Np not 18, 36, 72, 144 */
-#define SLT_REFUSED_FRAME 9u   /* PICH or P-CCPCH frame, or second stream of a DPCH slot, that no fields give */
+#define SLT_REFUSED_FRAME 9u   /* PICH or P-CCPCH frame, second stream of a DPCH slot, or missing slot of a compressed frame, that no fields give */
 #define SLT_REFUSED_VALUES 10u /* AICH values that no indicators give */
 #define SLT_REFUSED_RANGE 11u  /* a number outside its range */
 #define SLT_REFUSED_GAINS 12u  /* both gains zero */
@@ -56,6 +56,9 @@ extern "C" {
 
 /* Of the calls under a set of available signatures. */
 #define SLT_REFUSED_SIGNATURE 26u /* a nonzero indicator of a signature that is not available; the place is the lowest */
+
+/* Of compressed frames. */
+#define SLT_REFUSED_GAP 27u /* a gap that leaves too few or too many slots of a compressed frame, or runs past slot 14 */
 
 /* PICH (TS 25.211, 5.3.3.10). np is 18, 36, 72 or 144. */
 
@@ -95,6 +98,15 @@ uint64_t slt_frame_map(size_t format, const uint8_t *data, size_t n_data, const 
                        size_t n_out, const uint8_t *commands, size_t n_commands);
 uint64_t slt_frame_read(size_t format, const uint8_t *frame, size_t n_frame, uint8_t *data, size_t n_data, uint8_t *tfci,
                         size_t n_tfci, uint8_t *commands, size_t n_commands);
+
+/* Compressed downlink DPCH frames (TS 25.211, 5.3.2, formats A and B): kind 1 is A, kind 2 is B. Slots first to first + missing - 1
+ * are missing, all DTX; 8 to 14 slots are transmitted. Data, TFCI and commands have the transmitted slots only, one after the other;
+ * the frame has all fifteen. Order of runs for refusal 3: map data, TFCI, output, commands; read frame, data, TFCI, commands. */
+uint64_t slt_compressed_map(size_t format, size_t kind, size_t first, size_t missing, const uint8_t *data, size_t n_data,
+                            const uint8_t *tfci, size_t n_tfci, uint8_t *out, size_t n_out, const uint8_t *commands,
+                            size_t n_commands);
+uint64_t slt_compressed_read(size_t format, size_t kind, size_t first, size_t missing, const uint8_t *frame, size_t n_frame,
+                             uint8_t *data, size_t n_data, uint8_t *tfci, size_t n_tfci, uint8_t *commands, size_t n_commands);
 
 /* Uplink DPDCH (TS 25.211, 5.2.1.1), formats 0 to 6: a slot is 10, 20, 40, 80, 160, 320 or 640 data digits, each 0 or 1, and a frame
  * is fifteen slots. No slot number is needed. Order of runs for refusal 3: map data, output; read slot or frame, data. */

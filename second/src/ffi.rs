@@ -7,6 +7,7 @@
 
 use crate::answer::Answer;
 use crate::lent::Lent;
+use crate::rules::compressed::Frame;
 
 // PICH
 
@@ -134,6 +135,43 @@ pub fn frame_read(
         slt_frame_read(
             format, frame.pointer(), n_frame, data.pointer(), n_data, tfci.pointer(), n_tfci, commands.pointer(),
             n_commands,
+        )
+    })
+}
+
+// Compressed DPCH frame
+
+unsafe extern "C" {
+    fn slt_compressed_map(
+        format: usize, kind: usize, first: usize, missing: usize, data: *const u8, n_data: usize, tfci: *const u8,
+        n_tfci: usize, out: *mut u8, n_out: usize, commands: *const u8, n_commands: usize,
+    ) -> u64;
+    fn slt_compressed_read(
+        format: usize, kind: usize, first: usize, missing: usize, frame: *const u8, n_frame: usize, data: *mut u8,
+        n_data: usize, tfci: *mut u8, n_tfci: usize, commands: *mut u8, n_commands: usize,
+    ) -> u64;
+}
+
+pub fn compressed_map(
+    of: Frame, data: &mut Lent<u8>, tfci: &mut Lent<u8>, out: &mut Lent<u8>, commands: &mut Lent<u8>,
+) -> Answer {
+    let (n_data, n_tfci, n_out, n_commands) = (data.len(), tfci.len(), out.len(), commands.len());
+    Answer::unpack(unsafe {
+        slt_compressed_map(
+            of.format, of.kind, of.first, of.missing, data.pointer(), n_data, tfci.pointer(), n_tfci, out.pointer(),
+            n_out, commands.pointer(), n_commands,
+        )
+    })
+}
+
+pub fn compressed_read(
+    of: Frame, frame: &mut Lent<u8>, data: &mut Lent<u8>, tfci: &mut Lent<u8>, commands: &mut Lent<u8>,
+) -> Answer {
+    let (n_frame, n_data, n_tfci, n_commands) = (frame.len(), data.len(), tfci.len(), commands.len());
+    Answer::unpack(unsafe {
+        slt_compressed_read(
+            of.format, of.kind, of.first, of.missing, frame.pointer(), n_frame, data.pointer(), n_data,
+            tfci.pointer(), n_tfci, commands.pointer(), n_commands,
         )
     })
 }

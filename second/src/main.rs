@@ -30,6 +30,7 @@ const CHANNELS: &[Channel] = &[
     ("dpch", compare::dpch::all),
     ("antenna", compare::antenna::all),
     ("frame", compare::frame::all),
+    ("compressed", compare::compressed::all),
     ("dpdch", compare::dpdch::all),
     ("dpcch", compare::dpcch::all),
     ("sttd", compare::sttd::all),

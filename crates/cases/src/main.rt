@@ -16,7 +16,7 @@ use libc::STDIN_FILENO;
 
 fn ask(call: usize, line: &[u8]) {
     match call {
-        question::SLOT_MAP..=question::DPCCH_FRAME_READ => digits::lend(call, line),
+        question::SLOT_MAP..=question::COMPRESSED_READ => digits::lend(call, line),
         question::PICH_Q => digits::q(line),
         question::AICH_MAP..=question::STTD_VALUES => values::lend(call, line),
         question::AICH_COMBINE => values::lend_results(line),

@@ -11,6 +11,7 @@
 mod access;
 mod antennas;
 mod case;
+mod compressed;
 mod frames;
 mod jobs;
 mod paging;
@@ -25,7 +26,7 @@ fn main() {
         Some("--questions") => true,
         Some(other) => panic!("{other} is not --questions"),
     };
-    let dedicated = [slots::all(), frames::all(), uplink::all()];
+    let dedicated = [slots::all(), frames::all(), compressed::all(), uplink::all()];
     let others = [antennas::all(), paging::all(), access::all(), samples::all(), jobs::all()];
     for case in [dedicated.concat(), others.concat()].concat() {
         if questions_only {

@@ -12,6 +12,7 @@
 
 mod calls;
 mod case;
+mod compressed;
 mod dpch;
 mod draw;
 mod lent;
@@ -27,7 +28,7 @@ use std::process::ExitCode;
 type Call = (&'static [u16], fn(&mut Draw) -> Case);
 
 /// In the order of `include/slt.h`, which is that of the table in `fuzz/calls.c`.
-const CALLS: [Call; 29] = [
+const CALLS: [Call; 31] = [
     (&[0, 8, 11], calls::pich_q),
     (&[0, 3, 4, 8], calls::pich_map),
     (&[0, 3, 4, 8, 9], calls::pich_read),
@@ -37,6 +38,8 @@ const CALLS: [Call; 29] = [
     (&[0, 1, 2, 3, 4, 5, 6, 7, 9], dpch::slot_read_antennas),
     (&[0, 1, 3, 4, 5, 6], dpch::frame_map),
     (&[0, 1, 3, 4, 5, 6, 7], dpch::frame_read),
+    (&[0, 1, 3, 4, 5, 6, 27], compressed::map),
+    (&[0, 1, 3, 4, 5, 6, 7, 9, 27], compressed::read),
     (&[0, 1, 3, 4], uplink::dpdch_slot),
     (&[0, 1, 3, 4], uplink::dpdch_slot),
     (&[0, 1, 3, 4], uplink::dpdch_frame),
