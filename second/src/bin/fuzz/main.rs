@@ -27,7 +27,7 @@ use std::process::ExitCode;
 type Call = (&'static [u16], fn(&mut Draw) -> Case);
 
 /// In the order of `include/slt.h`, which is that of the table in `fuzz/calls.c`.
-const CALLS: [Call; 27] = [
+const CALLS: [Call; 29] = [
     (&[0, 8, 11], calls::pich_q),
     (&[0, 3, 4, 8], calls::pich_map),
     (&[0, 3, 4, 8, 9], calls::pich_read),
@@ -47,6 +47,8 @@ const CALLS: [Call; 27] = [
     (&[0, 3, 11], calls::sttd_values),
     (&[0, 3, 4], calls::pccpch_map),
     (&[0, 3, 4, 9], calls::pccpch_read),
+    (&[0, 1, 3, 4], calls::hspdsch_map),
+    (&[0, 1, 3, 4, 9], calls::hspdsch_read),
     (&[0, 3, 11], calls::aich_map),
     (&[0, 3, 10], calls::aich_read),
     (&[0, 3, 11, 26], calls::aich_map_available),
