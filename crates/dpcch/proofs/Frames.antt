@@ -1,30 +1,52 @@
 -- The slots of a DPCCH frame: checked, written and taken one after the other.
 -- Assumes nothing.
-use mathlib.Core.Path.{_≡_, refl, _∙_}
+use mathlib.Core.Path.{_≡_, refl, ap, _∙_}
 use mathlib.Core.List.{List}
 use Prim.Native.Nat.{ℕ, _+_, _-_, _*_, _<_}
 use native.Mathlib.Omega.{arith}
 use borrow.Rule.Slice.PartMut.{putMid, midOf}
-use lib.Dec.{lit<}
+use borrow.Author.Tests.{leb-true}
+use lib.Dec.{leb, lit<}
 use lib.ListN.{length, getD, take, drop}
 use Rattle.run.specs.declared.Verdict.{Verdict}
+use Rattle.run.specs.First.{Every, atMost}
 use Rattle.run.specs.Parts.{part}
+use Rattle.run.specs.Verdicts.{done, chain}
+use Rattle.run.proofs.Chain.{chain-pass}
 use Rattle.run.proofs.Frames as frames
 use Rattle.run.proofs.Frames.{Shape, lent-is, lent-part, lent-length, sized}
 use Rattle.run.proofs.Front.{Front}
-use Rattle.run.proofs.Parts.{part-length}
+use Rattle.run.proofs.Parts.{part-room, part-length, part-at}
 use Rattle.dpch.specs.Uplink.{dpcchFormat}
 use Rattle.dpcch.specs.Rule.{slotOf, commandIn, tfciIn, fbiIn, slotAt, frameOf, frameTfciIn, frameFbiIn, commandsIn}
 use Rattle.dpcch.specs.Outcome.{fieldsVerdict, partVerdict, Put, Take, slotFields, slotDigits}
-use Rattle.dpcch.specs.Ready.{Whole, Room}
+use Rattle.dpcch.specs.Ready.{Whole, FrameReady, Room, FieldBits}
 use Rattle.dpcch.proofs.Laws.{sound-format, slot-length, field-long, part-whole}
-use Rattle.dpcch.proofs.Accept.{sizes-pass}
+use Rattle.dpcch.proofs.Accept.{sizes-pass, fields-pass}
 
 -- the k-th command, TFCI and FBI as they are lent: the checks of slot k
 pub fields-at : (format : ℕ) (tfci fbi commands : List ℕ) (k n m : ℕ) (r : Verdict) → n ≡ dpcchFormat format .tfci → m ≡ dpcchFormat format .fbi
     → r ≡ fieldsVerdict (getD commands k 0) (take (k * n + n - k * n) (drop (k * n) tfci)) (take (k * m + m - k * m) (drop (k * m) fbi)) k (k * n) (k * m)
     → r ≡ slotFields format tfci fbi commands k
 fields-at format tfci fbi commands k n m r p q e = e ∙ rw (lent-is k n tfci, lent-is k m fbi) (rw (p, q))
+
+-- fields that are bits are good in every slot
+pub bits-good : (format : ℕ) (tfci fbi commands : List ℕ) → FrameReady format (length tfci) (length fbi) (length commands) → FieldBits tfci fbi commands
+    → chain 15 (slotFields format tfci fbi commands) ≡ done
+bits-good format tfci fbi commands r b =
+    chain-pass 15 _
+    (λ k h. fields-pass _ _ _ _ _ _
+    (record {
+      tpc-ok = leb-true _ _ (b .commands-bits k (let n = r .commands-ok in omega arith));
+      tfci-bits = part-bits k (dpcchFormat format .tfci) tfci h (r .tfci-ok) (b .tfci-bits);
+      fbi-bits = part-bits k (dpcchFormat format .fbi) fbi h (r .fbi-ok) (b .fbi-bits);
+    }))
+  where
+    part-bits : (k n : ℕ) (s : List ℕ) → k < 15 → length s ≡ 15 * n → Every (atMost 1 s) (length s) → Every (atMost 1 (part k n s)) (length (part k n s))
+    part-bits k n s h e bits i l =
+        let long : length (part k n s) ≡ n = part-length k 15 n s h e in
+        let room = part-room k 15 n h in
+        ap (λ (x : ℕ). leb x 1) (part-at k n i s 0 (omega arith)) ∙ bits (k * n + i) (omega arith)
 
 -- slot k as it is lent: the checks of its digits
 pub digits-at : (format : ℕ) (xs : List ℕ) (k w : ℕ) (r : Verdict) → w ≡ dpcchFormat format .slot → k < 15 → length xs ≡ 15 * dpcchFormat format .slot

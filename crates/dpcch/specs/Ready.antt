@@ -6,6 +6,7 @@ use mathlib.Core.Bool.{cond}
 use mathlib.Core.List.{List}
 use lib.ListN.{length, getD, take, drop, replicate}
 use lib.Dec.{eqb}
+use Rattle.run.specs.First.{Every, atMost}
 use Rattle.run.specs.Fields.{total}
 use Rattle.run.specs.Parts.{part}
 use Rattle.dpch.specs.declared.Dpcch.{Dpcch}
@@ -63,3 +64,9 @@ pub record Room (format tfciLength fbiLength commandsLength frameLength : ℕ) :
 -- the commands of a frame that was accepted are bits
 pub record Bits (format : ℕ) (xs : List ℕ) : Type 0 where
   pub bit : (k : ℕ) → k < 15 → commandIn (dpcchFormat format) (part k (dpcchFormat format .slot) xs) ≤ 1
+
+-- the digits of a frame's fields are bits
+pub record FieldBits (tfci fbi commands : List ℕ) : Type 0 where
+  pub tfci-bits : Every (atMost 1 tfci) (length tfci)
+  pub fbi-bits : Every (atMost 1 fbi) (length fbi)
+  pub commands-bits : Every (atMost 1 commands) (length commands)

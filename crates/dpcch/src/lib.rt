@@ -138,12 +138,7 @@ fn both(a: bool, b: bool) -> bool
 }
 
 // Whether the table has the format, and TFCI, FBI and slot have its lengths: all that writing a slot or taking its fields stands on.
-pub fn sizes_are(
-    format: usize,
-    tfci_length: usize,
-    fbi_length: usize,
-    slot_length: usize,
-) -> bool
+pub fn sizes_are(format: usize, tfci_length: usize, fbi_length: usize, slot_length: usize) -> bool
     ensures { λ r. ⌜ r ≡ sizesAre format «tfci_length» «fbi_length» «slot_length» ⌝ }
 {
     let f = format_of(format);

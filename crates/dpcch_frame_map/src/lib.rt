@@ -39,6 +39,12 @@ fn map_verdict(
     if head.number != 0 {
         return head;
     }
+    if slots::are_good(tfci, fbi, commands) {
+        return Verdict {
+            number: 0,
+            place: 0,
+        };
+    }
     slots::check_fields(format, tfci, fbi, commands)
 }
 

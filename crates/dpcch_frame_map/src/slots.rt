@@ -1,12 +1,38 @@
 // The fifteen slots of a frame, one after the other: each is lent its own part of every run.
 use run::Verdict;
 ghost use mathlib.Core.Path.{_≡_};
+ghost use mathlib.Core.Bool.{true};
 ghost use lib.ListN.{length};
+ghost use Rattle.run.specs.First.{all, atMost};
 ghost use Rattle.run.specs.Verdicts.{chain};
 ghost use Rattle.dpch.specs.Uplink.{dpcchFormat};
 ghost use Rattle.dpcch.specs.Rule.{frameOf};
 ghost use Rattle.dpcch.specs.Outcome.{slotFields};
-ghost use Rattle.dpcch.specs.Ready.{FrameReady, Room};
+ghost use Rattle.dpcch.specs.Ready.{FrameReady, Room, FieldBits};
+
+// Whether all digits of a run are bits. A frame's runs of fields have fifteen digits or thirty, which are worth a look whose length is a number.
+fn are_bits(s: &[u8]) -> bool
+    ensures { λ r. ⌜ r ≡ all (length (now (s .entry))) (atMost 1 (now (s .entry))) ⌝ }
+{
+    match s.len() {
+        15 => scan::all_at_most(s, 1, 15),
+        30 => scan::all_at_most(s, 1, 30),
+        _ => s.len() <= scan::first_above(s, 1),
+    }
+}
+
+// Whether the fields of all slots are good: each run is looked at as a whole, and a slot by itself only where one of them is not.
+pub(crate) fn are_good(tfci: &[u8], fbi: &[u8], commands: &[u8]) -> bool
+    ensures { λ r. ⌜ (r ≡ true → FieldBits (now (tfci .entry)) (now (fbi .entry)) (now (commands .entry))) ⌝ }
+{
+    if !are_bits(commands) {
+        return false;
+    }
+    if !are_bits(tfci) {
+        return false;
+    }
+    are_bits(fbi)
+}
 
 // The first slot whose command, TFCI or FBI is refused.
 pub(crate) fn check_fields(format: usize, tfci: &[u8], fbi: &[u8], commands: &[u8]) -> Verdict

@@ -39,6 +39,12 @@ fn read_verdict(
     if head.number != 0 {
         return head;
     }
+    if slots::all_fit(format, xs) {
+        return Verdict {
+            number: 0,
+            place: 0,
+        };
+    }
     slots::check_digits(format, xs)
 }
 

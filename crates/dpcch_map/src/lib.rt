@@ -6,6 +6,10 @@ use run::or_else;
 use run::refusal;
 use run::unless;
 ghost use mathlib.Core.Path.{_≡_};
+ghost use mathlib.Core.Bool.{true};
+ghost use lib.ListN.{length};
+ghost use Rattle.run.specs.First.{Every, atMost};
+ghost use Rattle.run.specs.Verdicts.{done};
 ghost use Rattle.dpcch.specs.Outcome.{fieldsVerdict, mapVerdict, Map};
 
 // The checks of command, TFCI and FBI; each counts its places from where it stands in its run.
@@ -27,6 +31,31 @@ pub fn fields_verdict(
     or_else(unless(tpc <= 1, refusal::TPC, tpc_place), digits)
 }
 
+// Whether these are at most two digits, and bits. A field of a slot has no more, and is worth a look whose length is a number.
+fn are_few_bits(s: &[u8]) -> bool
+    ensures { λ r. ⌜ (r ≡ true → Every (atMost 1 (now (s .entry))) (length (now (s .entry)))) ⌝ }
+{
+    match s.len() {
+        0 => true,
+        1 => scan::all_at_most(s, 1, 1),
+        2 => scan::all_at_most(s, 1, 2),
+        _ => false,
+    }
+}
+
+// Whether the fields of a slot are good at first sight.
+fn are_good(tpc: usize, tfci: &[u8], fbi: &[u8]) -> bool
+    ensures { λ r. ⌜ (r ≡ true → fieldsVerdict tpc (now (tfci .entry)) (now (fbi .entry)) 0 0 0 ≡ done) ⌝ }
+{
+    if 1 < tpc {
+        return false;
+    }
+    if !are_few_bits(tfci) {
+        return false;
+    }
+    are_few_bits(fbi)
+}
+
 fn map_verdict(
     format: usize,
     slot: usize,
@@ -40,6 +69,12 @@ fn map_verdict(
     let head = dpcch::map_head(format, slot, tfci.len(), fbi.len(), out_length);
     if head.number != 0 {
         return head;
+    }
+    if are_good(tpc, tfci, fbi) {
+        return Verdict {
+            number: 0,
+            place: 0,
+        };
     }
     fields_verdict(tpc, tfci, fbi, 0, 0, 0)
 }

@@ -3,6 +3,7 @@ use dpch::Dpcch;
 use write::copy;
 use write::fill;
 ghost use mathlib.Core.Path.{_≡_};
+ghost use Prim.Native.Nat.{_≤_};
 ghost use lib.ListN.{length};
 ghost use Rattle.run.specs.Written.{over};
 ghost use Rattle.dpcch.specs.Rule.{slotOf};
@@ -33,14 +34,22 @@ fn write(f: Dpcch, slot: usize, tpc: u8, tfci: &[u8], fbi: &[u8], out: &mut [u8]
     fill(&mut out[c..d], tpc);
 }
 
-// The slot of the fields with no look at their digits, where their lengths are the format's; else `out` as it was.
+// The slot of the fields with no look at their digits, where their lengths are the format's; else `out` as it was. A length that is asked for by itself is known to
+// the compiler from there on.
 fn put_as(format: usize, slot: usize, tpc: u8, tfci: &[u8], fbi: &[u8], out: &mut [u8])
+    requires { ⌜ format ≤ 3 ⌝ }
     ensures { λ _. ⌜ Put format slot tpc (now (tfci .entry)) (now (fbi .entry)) (now (out .entry)) (now (out .exit)) ⌝ }
 {
-    if !dpcch::sizes_are(format, tfci.len(), fbi.len(), out.len()) {
+    let f = dpcch::format_of(format);
+    if tfci.len() != f.tfci {
         return;
     }
-    let f = dpcch::format_of(format);
+    if fbi.len() != f.fbi {
+        return;
+    }
+    if out.len() != f.slot {
+        return;
+    }
     write(f, slot, tpc, tfci, fbi, out);
 }
 
@@ -53,6 +62,6 @@ pub fn put(format: usize, slot: usize, tpc: u8, tfci: &[u8], fbi: &[u8], out: &m
         1 => put_as(1, slot, tpc, tfci, fbi, out),
         2 => put_as(2, slot, tpc, tfci, fbi, out),
         3 => put_as(3, slot, tpc, tfci, fbi, out),
-        _ => put_as(format, slot, tpc, tfci, fbi, out),
+        _ => {}
     }
 }

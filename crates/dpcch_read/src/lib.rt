@@ -41,25 +41,37 @@ fn read_verdict(
     if head.number != 0 {
         return head;
     }
+    if dpcch_fits::fits(format, slot, xs) {
+        return Verdict {
+            number: 0,
+            place: 0,
+        };
+    }
     dpcch_check::part_verdict(format, slot, xs, 0)
 }
 
-// The fields of a slot with no look at their digits, or the refusal and the runs as they were.
-pub fn take(format: usize, slot: usize, xs: &[u8], tfci: &mut [u8], fbi: &mut [u8]) -> Command
-    ensures { λ r. ⌜ Take format slot (now (xs .entry)) (now (tfci .entry)) (now (fbi .entry)) r (now (tfci .exit)) (now (fbi .exit)) ⌝ }
+// The fields of a slot with no look at their digits, and the command, where the lengths are the format's; else 0, and the runs as they were.
+fn take_as(format: usize, xs: &[u8], tfci: &mut [u8], fbi: &mut [u8]) -> usize
+    ensures { λ r. ⌜ Take format (now (xs .entry)) (now (tfci .entry)) (now (fbi .entry)) r (now (tfci .exit)) (now (fbi .exit)) ⌝ }
 {
-    let head = read_head(format, slot, xs.len(), tfci.len(), fbi.len());
-    if head.number != 0 {
-        return Command {
-            verdict: head,
-            tpc: 0,
-        };
+    if !dpcch::sizes_are(format, tfci.len(), fbi.len(), xs.len()) {
+        return 0;
     }
     let f = dpcch::format_of(format);
     fields::take(f, xs, tfci, fbi);
-    Command {
-        verdict: head,
-        tpc: fields::command(f, xs),
+    fields::command(f, xs)
+}
+
+// The same. Where the format is a number, so is the width of each field.
+pub fn take(format: usize, xs: &[u8], tfci: &mut [u8], fbi: &mut [u8]) -> usize
+    ensures { λ r. ⌜ Take format (now (xs .entry)) (now (tfci .entry)) (now (fbi .entry)) r (now (tfci .exit)) (now (fbi .exit)) ⌝ }
+{
+    match format {
+        0 => take_as(0, xs, tfci, fbi),
+        1 => take_as(1, xs, tfci, fbi),
+        2 => take_as(2, xs, tfci, fbi),
+        3 => take_as(3, xs, tfci, fbi),
+        _ => take_as(format, xs, tfci, fbi),
     }
 }
 
@@ -74,9 +86,9 @@ pub fn read(format: usize, slot: usize, xs: &[u8], tfci: &mut [u8], fbi: &mut [u
             tpc: 0,
         };
     }
-    let taken = take(format, slot, xs, tfci, fbi);
+    let tpc = take(format, xs, tfci, fbi);
     Command {
         verdict: checked,
-        tpc: taken.tpc,
+        tpc,
     }
 }

@@ -1,27 +1,25 @@
 -- The digits of a slot and of a frame are its data, one after the other.
 -- Assumes nothing.
 use mathlib.Core.Path.{_≡_, refl, sym, ap, _∙_}
-use mathlib.Core.Bool.{Bool, true, false, _&&_}
+use mathlib.Core.Bool.{Bool, true, false}
 use mathlib.Core.List.{List, [], _∷_, append-nil}
 use Prim.Native.Nat.{ℕ, _*_, _≤_, _<_}
 use native.Mathlib.Nat.{mul-le-mul-right}
 use native.Mathlib.Omega.{arith}
 use borrow.Author.Tests.{eqb-true, eqb-false, eq-eqb}
-use lib.Dec.{eqb, leb, lit<}
+use lib.Dec.{eqb, lit<}
 use lib.ListN.{length}
 use Rattle.run.specs.declared.Verdict.{Verdict}
-use Rattle.run.specs.First.{all, Every, atMost}
+use Rattle.run.specs.First.{Every, atMost}
 use Rattle.run.specs.Fields.{cut, joined, field}
 use Rattle.run.specs.Parts.{part}
 use Rattle.run.specs.Refusals.{tfciRefused}
 use Rattle.run.specs.Table.{tab}
 use Rattle.run.specs.Verdicts.{done, leaves, Narrow}
-use Rattle.run.proofs.Bools.{and-right}
 use Rattle.run.proofs.Chain.{or-else-done, each-done, or-else-pass, each-pass, or-else-narrow, each-narrow, leaves-done, leaves-refused}
 use Rattle.run.proofs.Fields.{joined-cut}
 use Rattle.run.proofs.Never.{or-else-never, each-never}
 use Rattle.run.proofs.Parts.{part-length, joined-part}
-use Rattle.run.proofs.Passing.{all-every}
 use Rattle.run.proofs.Table.{tab-same}
 use Rattle.dpch.specs.Heads.{frameHead}
 use Rattle.dpch.specs.Uplink.{dpdchSize}
@@ -116,7 +114,3 @@ carried {slots} {format} {input} {out} {after} made plain c = side (eqb (slotsVe
         let z = eqb-true _ _ t in
         c .out-is ∙ leaves-done _ _ _ z ∙ sym (leaves-done _ _ _ z ∙ plain (taken slots format input (length out) z .long))
     side false t = let z = eqb-false _ _ t in c .out-is ∙ leaves-refused _ _ _ z ∙ sym (leaves-refused _ _ _ z)
-
--- a run of n digits of which the first n were looked at
-pub few-told : (s : List ℕ) (n : ℕ) {r : Bool} → length s ≡ n → r ≡ (leb n (length s) && all n (atMost 1 s)) → r ≡ true → Every (atMost 1 s) (length s)
-few-told s n e told good = λ k h. all-every n (atMost 1 s) (and-right (leb n (length s)) _ (sym told ∙ good)) k (omega arith)

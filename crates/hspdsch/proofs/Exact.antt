@@ -1,26 +1,32 @@
 -- The theorems of specs/Exact.antt.
 -- Assumes nothing.
-use mathlib.Core.Path.{_≡_, refl, sym, _∙_}
+use mathlib.Core.Path.{_≡_, refl, sym, _∙_, subst}
 use mathlib.Core.List.{List}
 use Prim.Native.Nat.{ℕ}
 use native.Mathlib.Omega.{arith}
-use Rattle.run.specs.Streams.{Paired}
+use Rattle.run.specs.Pairs.{Reads, PairRead}
+use Rattle.run.specs.Verdicts.{done}
 use Rattle.run.proofs.Chain.{one-outcome, number-0}
 use Rattle.run.proofs.First.{no-diff, diff-none}
-use Rattle.run.proofs.Streams.{pairs-exact}
+use Rattle.run.proofs.Pairs.{pairs-exact}
 use Rattle.hspdsch.specs.Rule.{slotSizes, size, secondOf}
 use Rattle.hspdsch.specs.Outcome.{mapVerdict, readVerdict}
-use Rattle.hspdsch.specs.Exact.{ReadExact, Sizes, ByEights, ByFours, MapOnce, SecondOnce, ReadOnce, Packs}
+use Rattle.hspdsch.specs.Exact.{TakenBoth, asItIs, ReadExact, Sizes, ByEights, ByFours, MapOnce, SecondOnce, ReadOnce, Packs}
 use Rattle.hspdsch.proofs.Laws.{second-length, second-bits, eight-placed, four-placed}
 use Rattle.hspdsch.proofs.Checks.{Taken, taken, taken-pass, map-narrow, Accepted, accepted, accepted-pass, read-narrow}
 
--- ---- the law of two streams, at antenna 1 as the data and antenna 2 as what it gives
+-- ---- the law of pairs, at antenna 1 as the data and antenna 2 as what it gives
 module _ (format : ℕ) where
-  given : (antenna1 antenna2 : List ℕ) → Accepted format antenna1 antenna2 (size format) → secondOf format antenna1 ≡ antenna2
-  given antenna1 antenna2 a =
-      let n = second-length format (a .head .format-ok) antenna1 (a .head .first-ok) in
-      let m = a .head .second-ok in
-      no-diff (secondOf format antenna1) antenna2 (n ∙ sym m) (λ k h. a .agrees k (omega arith))
+  -- a stream of antenna 1 is read where it is taken as data
+  first-reads : Reads (TakenBoth format) asItIs (TakenBoth format) asItIs
+  first-reads =
+      record {
+        exactly = λ s. (
+          λ a. record { fields = s; taken = a; gives = refl },
+          λ g. subst (TakenBoth format) (g .gives) (g .taken),
+        );
+        back = λ d e. refl;
+      }
 
   mapped : (d : List ℕ) → Taken format d (size format) (size format) → Accepted format d (secondOf format d) (size format)
   mapped d t =
@@ -32,24 +38,33 @@ module _ (format : ℕ) where
         agrees = diff-none (secondOf format d) (secondOf format d) _ refl;
       }
 
-  paired : Paired (λ (d : List ℕ). mapVerdict format d (size format) (size format)) (λ (d : List ℕ). d) (secondOf format)
-      (λ (s t : List ℕ). readVerdict format s t (size format)) (λ (s : List ℕ). s)
-  paired =
-      record {
-        read-given = λ s t e.
-            let a = accepted format s t (size format) (number-0 e) in
-            record {
-              is-taken = taken-pass format s (size format) (size format)
-                  (record { format-ok = a .head .format-ok; long = a .head .first-ok; first-ok = refl; second-ok = refl; bits = a .bits1 });
-              on-first = refl;
-              on-second = given s t a;
-            };
-        mapped-accepted = λ d e. accepted-pass format d (secondOf format d) (size format) (mapped d (taken format d (size format) (size format) (number-0 e)));
-        mapped-back = λ d e. refl;
-      }
+  module _ (antenna1 antenna2 : List ℕ) where
+    pair : PairRead (TakenBoth format) asItIs (secondOf format) (TakenBoth format) asItIs (secondOf format) antenna1 antenna2
+    pair = pairs-exact (List ℕ) (List ℕ) (TakenBoth format) asItIs (secondOf format) (TakenBoth format) asItIs (secondOf format) first-reads (λ d e. refl) antenna1 antenna2
+
+    apart : readVerdict format antenna1 antenna2 (size format) ≡ done → TakenBoth format antenna1 × (secondOf format antenna1 ≡ antenna2)
+    apart e =
+        let a = accepted format antenna1 antenna2 (size format) (number-0 e) in
+        let h = a .head in
+        let n = second-length format (h .format-ok) antenna1 (h .first-ok) in
+        let m = h .second-ok in (
+          taken-pass format antenna1 (size format) (size format) (record { format-ok = h .format-ok; long = h .first-ok; first-ok = refl; second-ok = refl; bits = a .bits1 }),
+          no-diff (secondOf format antenna1) antenna2 (n ∙ sym m) (λ k l. a .agrees k (omega arith)),
+        )
+
+    together : TakenBoth format antenna1 × (secondOf format antenna1 ≡ antenna2) → readVerdict format antenna1 antenna2 (size format) ≡ done
+    together p =
+        subst (λ (t : List ℕ). readVerdict format antenna1 t (size format) ≡ done) (p .1)
+        (accepted-pass format antenna1 (secondOf format antenna1) (size format) (mapped antenna1 (taken format antenna1 (size format) (size format) (number-0 (p .0)))))
 
 pub read-exact : ReadExact
-read-exact format = pairs-exact _ _ _ _ _ (paired format)
+read-exact format antenna1 antenna2 =
+    let p = pair format antenna1 antenna2 in
+    record {
+      accepts = (λ e. p .exactly .0 (apart format antenna1 antenna2 e), λ g. together format antenna1 antenna2 (p .exactly .1 g));
+      hands-back = p .hands-back;
+      one-set = p .one-set;
+    }
 
 -- ---- sizes and places
 

@@ -3,20 +3,35 @@
 use Prim.Native.Nat.{ℕ, _+_, _*_, _≤_, _<_}
 use mathlib.Core.Path.{_≡_}
 use mathlib.Core.List.{List}
+use mathlib.Core.Logic.{_↔_}
 use lib.ListN.{length, getD}
 use Rattle.run.specs.declared.Verdict.{Verdict}
-use Rattle.run.specs.Streams.{Exact}
-use Rattle.run.specs.Verdicts.{Narrow}
+use Rattle.run.specs.Pairs.{PairGiven}
+use Rattle.run.specs.Verdicts.{done, Narrow}
 use Rattle.sttd.specs.Rule.{barDigit}
 use Rattle.hspdsch.specs.Rule.{size, secondOf}
 use Rattle.hspdsch.specs.Outcome.{mapVerdict, Map, Second, readVerdict, Read}
 
--- read accepts a pair of subframes exactly when some data gives them, and hands back that, of which there is one; antenna 1 is the data
+-- map takes the data, for two subframes of the format's length
+abbrev pub TakenBoth : ℕ → List ℕ → Type 0
+TakenBoth format d = mapVerdict format d (size format) (size format) ≡ done
+
+-- antenna 1 sends the data as it is, and it is handed back as it is
+abbrev pub asItIs : List ℕ → List ℕ
+asItIs d = d
+
+-- some data gives a pair of subframes
+abbrev pub Pair : ℕ → List ℕ → List ℕ → Type 0
+Pair format antenna1 antenna2 = PairGiven (TakenBoth format) asItIs (secondOf format) antenna1 antenna2
+
+-- read accepts a pair of subframes exactly when some data gives it, and hands back that, of which there is one
+pub record Exact (format : ℕ) (antenna1 antenna2 : List ℕ) : Type 0 where
+  pub accepts : (readVerdict format antenna1 antenna2 (size format) ≡ done) ↔ Pair format antenna1 antenna2
+  pub hands-back : (g : Pair format antenna1 antenna2) → antenna1 ≡ g .fields
+  pub one-set : (g h : Pair format antenna1 antenna2) → g .fields ≡ h .fields
+
 abbrev pub ReadExact : Type 0
-ReadExact =
-    (format : ℕ) (antenna1 antenna2 : List ℕ)
-    → Exact (λ (d : List ℕ). mapVerdict format d (size format) (size format)) (λ (d : List ℕ). d) (secondOf format)
-    (λ (s t : List ℕ). readVerdict format s t (size format)) (λ (s : List ℕ). s) antenna1 antenna2
+ReadExact = (format : ℕ) (antenna1 antenna2 : List ℕ) → Exact format antenna1 antenna2
 
 -- the sizes of table 26, and that both antennas send as many digits
 pub record Sizes : Type 0 where

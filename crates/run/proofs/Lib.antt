@@ -14,4 +14,4 @@ pub mod Ranges
 pub mod Stretch
 pub mod Frames
 pub mod Never
-pub mod Streams
+pub mod Pairs

@@ -1,11 +1,12 @@
 -- A pass over places that takes no early way out: it keeps whether all so far passed. One proof over the test.
 -- Assumes nothing.
 use mathlib.Core.Path.{_≡_, refl, sym, _∙_}
-use mathlib.Core.Bool.{Bool, true, false, not}
+use mathlib.Core.Bool.{Bool, true, false, not, _&&_}
 use Prim.Native.Nat.{ℕ, _+_, _≤_, _<_}
 use native.Mathlib.Omega.{arith}
 use borrow.Author.Count.{below-more}
 use borrow.Author.Tests.{le-leb, lt-leb, leb-true, leb-false, not-false}
+use lib.Dec.{leb}
 use Rattle.run.specs.First.{firstBad, all, Every}
 use Rattle.run.proofs.First.{first-is, first-below, first-fails, first-none, none-first}
 
@@ -59,3 +60,10 @@ module _ {ok : ℕ → Bool} {n : ℕ} where
 -- a caller that asked whether one did not pass, and was told no
 pub passed : (ok : ℕ → Bool) {n : ℕ} {good : Bool} → good ≡ all n ok → (not good ≡ false) → Every ok n
 passed ok {n} {good} e h = all-every n ok (sym e ∙ not-false good h)
+
+-- of m places the first n were asked, which are all of them
+pub front-all : (m n : ℕ) (ok : ℕ → Bool) {good : Bool} → m ≡ n → good ≡ (leb n m && all n ok) → good ≡ all m ok
+front-all m n ok e told = told ∙ rw (e, le-leb n n (omega arith))
+
+pub front-every : (m n : ℕ) (ok : ℕ → Bool) {good : Bool} → m ≡ n → good ≡ (leb n m && all n ok) → good ≡ true → Every ok m
+front-every m n ok e told good = all-every m ok (sym (front-all m n ok e told) ∙ good)

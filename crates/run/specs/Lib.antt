@@ -7,4 +7,4 @@ pub mod Fields
 pub mod Parts
 pub mod Written
 pub mod Ranges
-pub mod Streams
+pub mod Pairs

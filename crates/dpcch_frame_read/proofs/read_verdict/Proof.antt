@@ -17,14 +17,24 @@ returns c =
     let e = c .before .before .read-head .ensures in
     e ∙ sym (or-else-refused _ _ (rw e at (c .if1 .taken)))
 
-check-digits-requires : tie.Need-check-digits-requires
-check-digits-requires c κs = frame-read-headed _ _ _ _ _ (rw (c .before .before .read-head .ensures) at (c .if1 .left)) .frame-ok
+all-fit-requires : tie.Need-all-fit-requires
+all-fit-requires c κs = frame-read-headed _ _ _ _ _ (rw (c .before .before .read-head .ensures) at (c .if1 .left)) .frame-ok
 
 returns-2 : tie.Need-returns-2
 unfolding frameReadVerdict
 returns-2 c =
-    let e = c .before .before .before .read-head .ensures in
-    c .check-digits .ensures ∙ sym (or-else-next _ _ (rw e at (c .before .if1 .left)))
+    let e = c .before .before .before .before .read-head .ensures in
+    sym (or-else-next _ _ (rw e at (c .before .before .if1 .left)) ∙ c .before .all-fit .ensures (c .if2 .taken))
+
+check-digits-requires : tie.Need-check-digits-requires
+check-digits-requires c κs = frame-read-headed _ _ _ _ _ (rw (c .before .before .before .before .read-head .ensures) at (c .before .before .if1 .left)) .frame-ok
+
+returns-3 : tie.Need-returns-3
+unfolding frameReadVerdict
+returns-3 c =
+    let e = c .before .before .before .before .before .read-head .ensures in
+    c .check-digits .ensures ∙ sym (or-else-next _ _ (rw e at (c .before .before .before .if1 .left)))
 
 pub read-verdict-spec : {M : Type 1} → statement M
-read-verdict-spec = tie.close (tie.spec read-head-requires returns check-digits-requires returns-2)
+read-verdict-spec =
+    tie.close (tie.spec read-head-requires returns all-fit-requires returns-2 check-digits-requires returns-3)

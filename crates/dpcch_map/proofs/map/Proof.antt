@@ -3,7 +3,7 @@
 use mathlib.Core.Path.{sym, _∙_}
 use native.Mathlib.Omega.{arith}
 use Rattle.run.proofs.Chain.{leaves-done, leaves-refused}
-use Rattle.dpcch.proofs.Accept.{mapped}
+use Rattle.dpcch.proofs.Accept.{mapped, sizes-pass}
 use borrow.Author.Needs.{needs}
 use Rattle.dpcch_map.proofs.map.Statement.{statement}
 use Rattle.dpcch_map.proofs.map.Tie as tie
@@ -31,9 +31,10 @@ returns-2 : tie.Need-returns-2
 returns-2 c =
     let e = c .before .before .before .before .before .before .map-verdict .ensures in
     let z = rw e at (c .before .before .before .before .if1 .left) in
+    let h = mapped _ _ _ _ _ _ z .head in
     record {
       verdict-is = e;
-      out-is = c .before .before .put .ensures .out-is ∙ leaves-done _ _ _ (mapped _ _ _ _ _ _ z .head-done) ∙ sym (leaves-done _ _ _ z);
+      out-is = c .before .before .put .ensures .out-is ∙ rw (sizes-pass _ _ _ _ (h .format-ok) (h .ready)) (sym (leaves-done _ _ _ z));
     }
 
 pub map-spec : {M : Type 1} → statement M

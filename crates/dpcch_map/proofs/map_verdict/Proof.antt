@@ -16,14 +16,24 @@ returns c =
     let e = c .before .before .map-head .ensures in
     e ∙ sym (or-else-refused _ _ (rw e at (c .if1 .taken)))
 
-fields-verdict-requires : tie.Need-fields-verdict-requires
-fields-verdict-requires c κs = search needs
+are-good-requires : tie.Need-are-good-requires
+are-good-requires c κs = search needs
 
 returns-2 : tie.Need-returns-2
 unfolding mapVerdict
 returns-2 c =
-    let e = c .before .before .before .map-head .ensures in
-    c .fields-verdict .ensures ∙ sym (or-else-next _ _ (rw e at (c .before .if1 .left)))
+    let e = c .before .before .before .before .map-head .ensures in
+    sym (or-else-next _ _ (rw e at (c .before .before .if1 .left)) ∙ c .before .are-good .ensures (c .if2 .taken))
+
+fields-verdict-requires : tie.Need-fields-verdict-requires
+fields-verdict-requires c κs = search needs
+
+returns-3 : tie.Need-returns-3
+unfolding mapVerdict
+returns-3 c =
+    let e = c .before .before .before .before .before .map-head .ensures in
+    c .fields-verdict .ensures ∙ sym (or-else-next _ _ (rw e at (c .before .before .before .if1 .left)))
 
 pub map-verdict-spec : {M : Type 1} → statement M
-map-verdict-spec = tie.close (tie.spec map-head-requires returns fields-verdict-requires returns-2)
+map-verdict-spec =
+    tie.close (tie.spec map-head-requires returns are-good-requires returns-2 fields-verdict-requires returns-3)

@@ -1,6 +1,9 @@
 -- `dpcch_put::put` meets its contract: each arm writes the format that it names.
 -- Assumes nothing.
+use Prim.Native.Nat.{_<_}
+use native.Mathlib.Omega.{arith}
 use borrow.Author.Needs.{needs}
+use Rattle.dpcch.proofs.Accept.{sizes-past}
 use Rattle.dpcch_put.proofs.put.Statement.{statement}
 use Rattle.dpcch_put.proofs.put.Tie as tie
 
@@ -15,9 +18,6 @@ put-as-requires-3 c κs = search needs
 
 put-as-requires-4 : tie.Need-put-as-requires-4
 put-as-requires-4 c κs = search needs
-
-put-as-requires-5 : tie.Need-put-as-requires-5
-put-as-requires-5 c κs = search needs
 
 same-length : tie.Need-same-length
 same-length c = search needs
@@ -43,11 +43,11 @@ same-length-4 c = search needs
 returns-4 : tie.Need-returns-4
 returns-4 c = rw (c .before .before .before .before .match .keys4) (c .before .before .put-as4 .ensures)
 
-same-length-5 : tie.Need-same-length-5
-same-length-5 c = search needs
-
 returns-5 : tie.Need-returns-5
-returns-5 c = search needs
+returns-5 c =
+    let none = c .match .rest in
+    let past : 3 < c .before .before .before .before .args .format = omega (arith, none .0 .0 .0 .1, none .0 .0 .1, none .0 .1, none .1) in
+    record { out-is = rw (sizes-past _ _ _ _ past) }
 
 pub put-spec : {M : Type 1} → statement M
 put-spec =
@@ -57,7 +57,6 @@ put-spec =
     put-as-requires-2
     put-as-requires-3
     put-as-requires-4
-    put-as-requires-5
     same-length
     returns
     same-length-2
@@ -66,5 +65,4 @@ put-spec =
     returns-3
     same-length-4
     returns-4
-    same-length-5
     returns-5)

@@ -2,7 +2,7 @@
 -- Assumes nothing.
 use mathlib.Core.Path.{sym, _∙_}
 use Rattle.run.proofs.Chain.{leaves-done, leaves-refused}
-use Rattle.dpcch.proofs.Accept.{accepted}
+use Rattle.dpcch.proofs.Accept.{accepted, sizes-pass}
 use borrow.Author.Needs.{needs}
 use Rattle.dpcch_read.proofs.read.Statement.{statement}
 use Rattle.dpcch_read.proofs.read.Tie as tie
@@ -30,12 +30,13 @@ returns-2 c =
     let e = c .before .before .before .before .before .before .before .before .before .read-verdict .ensures in
     let z = rw e at (c .before .before .before .before .before .before .before .if1 .left) in
     let t = c .before .before .before .before .take .ensures in
-    let h = accepted _ _ _ _ _ z .head-done in
+    let h = accepted _ _ _ _ _ z .head in
+    let sized = sizes-pass _ _ _ _ (h .format-ok) (h .ready) in
     record {
       verdict-is = e;
-      command-is = t .command-is ∙ leaves-done _ _ _ h ∙ sym (leaves-done _ _ _ z);
-      tfci-is = t .tfci-is ∙ leaves-done _ _ _ h ∙ sym (leaves-done _ _ _ z);
-      fbi-is = t .fbi-is ∙ leaves-done _ _ _ h ∙ sym (leaves-done _ _ _ z);
+      command-is = t .command-is ∙ rw sized (sym (leaves-done _ _ _ z));
+      tfci-is = t .tfci-is ∙ rw sized (sym (leaves-done _ _ _ z));
+      fbi-is = t .fbi-is ∙ rw sized (sym (leaves-done _ _ _ z));
     }
 
 pub read-spec : {M : Type 1} → statement M

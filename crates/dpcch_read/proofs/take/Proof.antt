@@ -1,34 +1,23 @@
--- `dpcch_read::take` meets its contract.
+-- `dpcch_read::take` meets its contract: each arm takes the fields of the format that it names.
 -- Assumes nothing.
-use mathlib.Core.Path.{sym, _∙_}
-use native.Mathlib.Omega.{arith}
-use Rattle.run.proofs.Chain.{leaves-done, leaves-refused}
-use Rattle.dpch.proofs.Exact.{dpcch-formats}
-use Rattle.dpcch.proofs.Accept.{read-headed}
 use borrow.Author.Needs.{needs}
 use Rattle.dpcch_read.proofs.take.Statement.{statement}
 use Rattle.dpcch_read.proofs.take.Tie as tie
 
-read-head-requires : tie.Need-read-head-requires
-read-head-requires c κs = search needs
+take-as-requires : tie.Need-take-as-requires
+take-as-requires c κs = search needs
 
-returns : tie.Need-returns
-returns c =
-    let e = c .before .before .read-head .ensures in
-    let n = rw e at (c .if1 .taken) in
-    record { verdict-is = e; command-is = sym (leaves-refused _ _ _ n); tfci-is = sym (leaves-refused _ _ _ n); fbi-is = sym (leaves-refused _ _ _ n) }
+take-as-requires-2 : tie.Need-take-as-requires-2
+take-as-requires-2 c κs = search needs
 
-format-of-requires : tie.Need-format-of-requires
-format-of-requires c κs = search needs
+take-as-requires-3 : tie.Need-take-as-requires-3
+take-as-requires-3 c κs = search needs
 
-take-requires : tie.Need-take-requires
-take-requires c κs = rw (c .before .before .format-of .ensures) (read-headed _ _ _ _ _ (rw (c .before .before .before .before .before .read-head .ensures) at (c .before .before .before .if1 .left)) .ready)
+take-as-requires-4 : tie.Need-take-as-requires-4
+take-as-requires-4 c κs = search needs
 
-command-requires : tie.Need-command-requires
-command-requires c κs =
-    let h = read-headed _ _ _ _ _ (rw (c .before .before .before .before .before .before .before .before .before .before .read-head .ensures) at (c .before .before .before .before .before .before .before .before .if1 .left)) in
-    rw (c .before .before .before .before .before .before .before .format-of .ensures)
-    (record { sound = h .ready .sound; slot-ok = h .ready .slot-ok }, (let two = dpcch-formats _ .two-tpc (h .format-ok) in omega arith))
+take-as-requires-5 : tie.Need-take-as-requires-5
+take-as-requires-5 c κs = search needs
 
 same-length : tie.Need-same-length
 same-length c = search needs
@@ -36,27 +25,66 @@ same-length c = search needs
 same-length-2 : tie.Need-same-length-2
 same-length-2 c = search needs
 
+returns : tie.Need-returns
+returns c = rw (c .before .before .before .before .before .before .before .match .keys1) (c .before .before .before .before .take-as .ensures)
+
+same-length-3 : tie.Need-same-length-3
+same-length-3 c = search needs
+
+same-length-4 : tie.Need-same-length-4
+same-length-4 c = search needs
+
 returns-2 : tie.Need-returns-2
-returns-2 c =
-    let e = c .before .before .before .before .before .before .before .before .before .before .before .read-head .ensures in
-    let z = rw e at (c .before .before .before .before .before .before .before .before .before .if1 .left) in
-    let f = c .before .before .before .before .before .before .before .before .format-of .ensures in
-    record {
-      verdict-is = e;
-      command-is = c .command .ensures ∙ rw f (sym (leaves-done _ _ _ z));
-      tfci-is = c .before .before .before .before .before .take .ensures .0 ∙ rw f (sym (leaves-done _ _ _ z));
-      fbi-is = c .before .before .before .before .before .take .ensures .1 ∙ rw f (sym (leaves-done _ _ _ z));
-    }
+returns-2 c = rw (c .before .before .before .before .before .before .before .match .keys2) (c .before .before .before .before .take-as2 .ensures)
+
+same-length-5 : tie.Need-same-length-5
+same-length-5 c = search needs
+
+same-length-6 : tie.Need-same-length-6
+same-length-6 c = search needs
+
+returns-3 : tie.Need-returns-3
+returns-3 c = rw (c .before .before .before .before .before .before .before .match .keys3) (c .before .before .before .before .take-as3 .ensures)
+
+same-length-7 : tie.Need-same-length-7
+same-length-7 c = search needs
+
+same-length-8 : tie.Need-same-length-8
+same-length-8 c = search needs
+
+returns-4 : tie.Need-returns-4
+returns-4 c = rw (c .before .before .before .before .before .before .before .match .keys4) (c .before .before .before .before .take-as4 .ensures)
+
+same-length-9 : tie.Need-same-length-9
+same-length-9 c = search needs
+
+same-length-10 : tie.Need-same-length-10
+same-length-10 c = search needs
+
+returns-5 : tie.Need-returns-5
+returns-5 c = c .before .before .before .before .take-as5 .ensures
 
 pub take-spec : {M : Type 1} → statement M
 take-spec =
     tie.close
     (tie.spec
-    read-head-requires
-    returns
-    format-of-requires
-    take-requires
-    command-requires
+    take-as-requires
+    take-as-requires-2
+    take-as-requires-3
+    take-as-requires-4
+    take-as-requires-5
     same-length
     same-length-2
-    returns-2)
+    returns
+    same-length-3
+    same-length-4
+    returns-2
+    same-length-5
+    same-length-6
+    returns-3
+    same-length-7
+    same-length-8
+    returns-4
+    same-length-9
+    same-length-10
+    returns-5)

@@ -3,7 +3,9 @@
 use mathlib.Core.Bool.{false≢true}
 use borrow.Author.Needs.{needs}
 use denote.Ref.{now}
-use Rattle.dpdch.proofs.Laws.{few-told}
+use lib.ListN.{length}
+use Rattle.run.specs.First.{atMost}
+use Rattle.run.proofs.Passing.{front-every}
 use Rattle.dpdch.proofs.are_few_bits.Statement.{statement}
 use Rattle.dpdch.proofs.are_few_bits.Tie as tie
 
@@ -14,10 +16,10 @@ all-at-most-requires-2 : tie.Need-all-at-most-requires-2
 all-at-most-requires-2 c κs = search needs
 
 returns : tie.Need-returns
-returns c = few-told (now (c .before .before .before .args .s)) 10 (c .before .match .keys1) (c .all-at-most .ensures)
+returns c = let s = now (c .before .before .before .args .s) in front-every (length s) 10 (atMost 1 s) (c .before .match .keys1) (c .all-at-most .ensures)
 
 returns-2 : tie.Need-returns-2
-returns-2 c = few-told (now (c .before .before .before .args .s)) 150 (c .before .match .keys2) (c .all-at-most2 .ensures)
+returns-2 c = let s = now (c .before .before .before .args .s) in front-every (length s) 150 (atMost 1 s) (c .before .match .keys2) (c .all-at-most2 .ensures)
 
 returns-3 : tie.Need-returns-3
 returns-3 c = λ e. absurd (false≢true e)

@@ -33,6 +33,8 @@ const CALLS: [Call; 29] = [
     (&[0, 3, 4, 8, 9], calls::pich_read),
     (&[0, 1, 2, 3, 4, 5, 6], dpch::slot_map),
     (&[0, 1, 2, 3, 4, 5, 6, 7], dpch::slot_read),
+    (&[0, 1, 2, 3, 4, 5, 6, 11], dpch::slot_map_antenna),
+    (&[0, 1, 2, 3, 4, 5, 6, 7, 9], dpch::slot_read_antennas),
     (&[0, 1, 3, 4, 5, 6], dpch::frame_map),
     (&[0, 1, 3, 4, 5, 6, 7], dpch::frame_read),
     (&[0, 1, 3, 4], uplink::dpdch_slot),

@@ -94,7 +94,7 @@ loop-again : tie.Need-loop-again Inv-loop μ-loop
 loop-again c =
     let s = sizes _ _ (c .before .before .before .before .before .before .before .before .before .format-of .ensures) in (
       omega arith,
-      slot-written _ _ _ (now (c .before .before .before .before .before .before .before .before .before .before .before .before .before .before .args .commands)) _ _ _ _ _ _ _ _ (c .before .before .before .before .before .before .before .before .before .before .before .before .before .before .pre) (c .before .before .before .before .before .before .before .loop-test .taken) (s .tfci-is) (s .fbi-is) (s .slot-is) (c .before .before .before .before .before .before .before .before .loop .inv .1)
+      slot-written _ _ _ (now (c .before .before .before .before .before .before .before .before .before .before .before .before .before .before .args .commands)) _ _ _ _ _ _ _ (c .before .before .before .before .before .before .before .before .before .before .before .before .before .before .pre) (c .before .before .before .before .before .before .before .loop-test .taken) (s .tfci-is) (s .fbi-is) (s .slot-is) (c .before .before .before .before .before .before .before .before .loop .inv .1)
           (c .before .before .put .ensures),
     )
 

@@ -90,19 +90,19 @@ take-requires c κs = search needs
 
 cast-commands : tie.Need-cast-commands Inv-loop μ-loop
 cast-commands c =
-    let a = c .before .before .before .before .before .before .before .before .before .before .before .before .before .before .before .before .args in
-    let room = c .before .before .before .before .before .before .before .before .before .before .before .before .before .before .before .before .pre .0 in
-    let s = sizes _ _ (c .before .before .before .before .before .before .before .before .before .before .before .format-of .ensures) in
-    let h = c .before .before .before .before .before .before .before .before .before .loop-test .taken in
-    let l = c .before .before .before .before .before .before .before .before .before .before .loop in
-    let t = c .before .before .before .before .before .take .ensures in
+    let a = c .before .before .before .before .before .before .before .before .before .before .before .before .before .before .before .args in
+    let room = c .before .before .before .before .before .before .before .before .before .before .before .before .before .before .before .pre .0 in
+    let s = sizes _ _ (c .before .before .before .before .before .before .before .before .before .before .format-of .ensures) in
+    let h = c .before .before .before .before .before .before .before .before .loop-test .taken in
+    let l = c .before .before .before .before .before .before .before .before .before .loop in
+    let t = c .before .before .before .before .take .ensures in
     let b =
     slot-back (a .format) (now (a .xs)) (now (a .tfci)) (now (a .fbi)) (now (a .commands)) (l .tfci) (l .fbi) _ _ _ _ room h (s .tfci-is) (s .fbi-is) (s .slot-is) (l .inv .1) (l .inv .2) _ _ _ t
     in
-    omega (arith, b .command-back, command-of (a .format) (now (a .xs)) (room .frame-ok) _ h, c .before .before .before .before .before .before .before .before .before .before .before .before .before .before .before .before .pre .1 .bit _ h)
+    omega (arith, b .command-back, command-of (a .format) (now (a .xs)) (room .frame-ok) _ h, c .before .before .before .before .before .before .before .before .before .before .before .before .before .before .before .pre .1 .bit _ h)
 
 slice-write-commands : tie.Need-slice-write-commands Inv-loop μ-loop
-slice-write-commands c = omega (arith, front-length (c .before .before .before .before .before .before .before .before .before .before .loop .inv .3), c .before .before .before .before .before .before .before .before .before .before .before .before .before .before .before .before .pre .0)
+slice-write-commands c = omega (arith, front-length (c .before .before .before .before .before .before .before .before .before .loop .inv .3), c .before .before .before .before .before .before .before .before .before .before .before .before .before .before .before .pre .0)
 
 add-k : tie.Need-add-k Inv-loop μ-loop
 add-k c = omega arith
@@ -112,12 +112,12 @@ loop-less c = omega arith
 
 loop-again : tie.Need-loop-again Inv-loop μ-loop
 loop-again c =
-    let a = c .before .before .before .before .before .before .before .before .before .before .before .before .before .before .before .before .args in
-    let room = c .before .before .before .before .before .before .before .before .before .before .before .before .before .before .before .before .pre .0 in
-    let s = sizes _ _ (c .before .before .before .before .before .before .before .before .before .before .before .format-of .ensures) in
-    let h = c .before .before .before .before .before .before .before .before .before .loop-test .taken in
-    let l = c .before .before .before .before .before .before .before .before .before .before .loop in
-    let t = c .before .before .before .before .before .take .ensures in
+    let a = c .before .before .before .before .before .before .before .before .before .before .before .before .before .before .before .args in
+    let room = c .before .before .before .before .before .before .before .before .before .before .before .before .before .before .before .pre .0 in
+    let s = sizes _ _ (c .before .before .before .before .before .before .before .before .before .before .format-of .ensures) in
+    let h = c .before .before .before .before .before .before .before .before .loop-test .taken in
+    let l = c .before .before .before .before .before .before .before .before .before .loop in
+    let t = c .before .before .before .before .take .ensures in
     let b =
     slot-back (a .format) (now (a .xs)) (now (a .tfci)) (now (a .fbi)) (now (a .commands)) (l .tfci) (l .fbi) _ _ _ _ room h (s .tfci-is) (s .fbi-is) (s .slot-is) (l .inv .1) (l .inv .2) _ _ _ t
     in (
