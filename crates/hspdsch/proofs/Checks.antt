@@ -14,18 +14,14 @@ use Rattle.run.specs.Verdicts.{done, Narrow}
 use Rattle.run.proofs.Chain.{or-else-done, each-done, or-else-pass, each-pass, or-else-narrow, each-narrow}
 use Rattle.dpch.specs.Heads.{frameHead}
 use Rattle.dpch.proofs.Heads.{head-three, frame-headed, frame-head-pass, frame-head-narrow}
-use Rattle.hspdsch.specs.Rule.{slotSizes, size, secondOf}
+use Rattle.hspdsch.specs.Rule.{size, secondOf}
 use Rattle.hspdsch.specs.Outcome.{mapVerdict, readHead, readBody, readVerdict}
-use Rattle.hspdsch.proofs.Laws.{by-format}
+use Rattle.hspdsch.proofs.Laws.{size-small}
 
 -- the head as the code asks for it
 pub head-is : (format n a b c : ℕ) (r : Verdict) → n ≡ size format → r ≡ frameHead 1 format (eqb a n ∷ eqb b n ∷ eqb c n ∷ true ∷ [])
     → r ≡ frameHead 1 format (eqb a (size format) ∷ eqb b (size format) ∷ eqb c (size format) ∷ [])
 head-is format n a b c r e h = h ∙ rw e (head-three 1 format (eqb a (size format)) (eqb b (size format)) (eqb c (size format)))
-
-pub size-small : (format : ℕ) → format ≤ 1 → size format ≤ 1920
-unfolding size slotSizes
-size-small = by-format (λ (f : ℕ). size f ≤ 1920) (omega arith) (omega arith)
 
 -- ---- map
 

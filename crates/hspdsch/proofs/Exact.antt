@@ -9,10 +9,10 @@ use Rattle.run.specs.Verdicts.{done}
 use Rattle.run.proofs.Chain.{one-outcome, number-0}
 use Rattle.run.proofs.First.{no-diff, diff-none}
 use Rattle.run.proofs.Pairs.{pairs-exact}
-use Rattle.hspdsch.specs.Rule.{slotSizes, size, secondOf}
+use Rattle.hspdsch.specs.Rule.{slotSizes, size, coded, secondOf}
 use Rattle.hspdsch.specs.Outcome.{mapVerdict, readVerdict}
-use Rattle.hspdsch.specs.Exact.{TakenBoth, asItIs, ReadExact, Sizes, ByEights, ByFours, MapOnce, SecondOnce, ReadOnce, Packs}
-use Rattle.hspdsch.proofs.Laws.{second-length, second-bits, eight-placed, four-placed}
+use Rattle.hspdsch.specs.Exact.{TakenBoth, asItIs, ReadExact, Sizes, ByEights, ByFours, MapOnce, ReadOnce, Packs}
+use Rattle.hspdsch.proofs.Laws.{size-whole, second-length, second-bits, eight-placed, four-placed}
 use Rattle.hspdsch.proofs.Checks.{Taken, taken, taken-pass, map-narrow, Accepted, accepted, accepted-pass, read-narrow}
 
 -- ---- the law of pairs, at antenna 1 as the data and antenna 2 as what it gives
@@ -31,10 +31,12 @@ module _ (format : ℕ) where
   mapped : (d : List ℕ) → Taken format d (size format) (size format) → Accepted format d (secondOf format d) (size format)
   mapped d t =
       let n = second-length format (t .format-ok) d (t .long) in
+      let w = size-whole format (t .format-ok) in
+      let long = t .long in
       record {
         head = record { format-ok = t .format-ok; first-ok = t .long; second-ok = n; data-ok = refl };
         bits1 = t .bits;
-        bits2 = second-bits format (t .format-ok) d (t .long) (t .bits);
+        bits2 = second-bits d (omega arith) (t .bits) format;
         agrees = diff-none (secondOf format d) (secondOf format d) _ refl;
       }
 
@@ -73,19 +75,16 @@ unfolding size slotSizes
 sizes = record { qpsk = refl; qam = refl; second-long = second-length }
 
 pub by-eights : ByEights
-unfolding secondOf
-by-eights = eight-placed
+unfolding coded
+by-eights d long k h = eight-placed d (omega arith) k (omega arith)
 
 pub by-fours : ByFours
-unfolding secondOf
+unfolding coded
 by-fours = four-placed
 
 pub map-once : MapOnce
 map-once format d antenna1 antenna2 a b x1 x2 y1 y2 p r =
     (one-outcome (p .verdict-is) (r .verdict-is), one-outcome (p .antenna1-is) (r .antenna1-is), one-outcome (p .antenna2-is) (r .antenna2-is))
-
-pub second-once : SecondOnce
-second-once format d antenna2 a b x y p r = (one-outcome (p .verdict-is) (r .verdict-is), one-outcome (p .antenna2-is) (r .antenna2-is))
 
 pub read-once : ReadOnce
 read-once format antenna1 antenna2 d a b x y p r = (one-outcome (p .verdict-is) (r .verdict-is), one-outcome (p .data-is) (r .data-is))

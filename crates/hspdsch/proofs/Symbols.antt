@@ -22,7 +22,7 @@ use Rattle.sttd.proofs.Bars.{bar-twice, bar-negates}
 use Rattle.sttd.proofs.Antenna2.{values-encoded, both-bars}
 use Rattle.sttd.proofs.Blocks.{blockwise-part, four-part}
 use Rattle.sttd.proofs.Laws.{block-at}
-use Rattle.hspdsch.specs.Rule.{Pick, plain, bar, pick, picked, figure8A, eights, secondOf}
+use Rattle.hspdsch.specs.Rule.{Pick, plain, bar, pick, picked, figure8A, eights, coded}
 use Rattle.hspdsch.proofs.Laws.{eight-long, picked-bit}
 use Rattle.hspdsch.specs.Symbols.{level, inPhase, quadrature, Coded, FigureCodes, FigureOnly, SubframeCodes, CodedFour, SubframeCodesFours}
 
@@ -75,13 +75,16 @@ same-level a b c d p q r s e =
     record { signs = sym (x .0) ∙ ap signOf e ∙ y .0; sizes = sym (x .1) ∙ ap sizeOf e ∙ y .1 }
 
 module _ (b : List ℕ) (long : length b ≡ 8) (bits : Every (atMost 1 b) 8) where
-  -- what codes the block is what the figure picks: each level tells two of the digits
-  module _ (ps : List Pick) (c : Coded b (picked ps b)) where
-    same-levels : (i j : ℕ) {z : ℤ} → level (getD (picked ps b) i 0) (getD (picked ps b) j 0) ≡ z → level (getD (picked figure8A b) i 0) (getD (picked figure8A b) j 0) ≡ z
-        → Told (getD (picked ps b) i 0) (getD (picked ps b) j 0) (getD (picked figure8A b) i 0) (getD (picked figure8A b) j 0)
-    same-levels i j e f = same-level _ _ _ _ (picked-bit b long bits ps i) (picked-bit b long bits ps j) (picked-bit b long bits figure8A i) (picked-bit b long bits figure8A j) (e ∙ sym f)
+  all-bits : Every (atMost 1 b) (length b)
+  all-bits = rw long bits
 
-    same-picks : (k : ℕ) → k < 8 → getD (picked ps b) k 0 ≡ getD (picked figure8A b) k 0
+  -- what codes the block is what the figure picks: each level tells two of the digits
+  module _ (ps : List Pick) (c : Coded b (picked barDigit ps b)) where
+    same-levels : (i j : ℕ) {z : ℤ} → level (getD (picked barDigit ps b) i 0) (getD (picked barDigit ps b) j 0) ≡ z → level (getD (picked barDigit figure8A b) i 0) (getD (picked barDigit figure8A b) j 0) ≡ z
+        → Told (getD (picked barDigit ps b) i 0) (getD (picked barDigit ps b) j 0) (getD (picked barDigit figure8A b) i 0) (getD (picked barDigit figure8A b) j 0)
+    same-levels i j e f = same-level _ _ _ _ (picked-bit b all-bits ps i) (picked-bit b all-bits ps j) (picked-bit b all-bits figure8A i) (picked-bit b all-bits figure8A j) (e ∙ sym f)
+
+    same-picks : (k : ℕ) → k < 8 → getD (picked barDigit ps b) k 0 ≡ getD (picked barDigit figure8A b) k 0
     same-picks zero h = same-levels 0 2 (c .first-re) (figure-codes b .first-re) .signs
     same-picks (suc zero) h = same-levels 1 3 (c .first-im) (figure-codes b .first-im) .signs
     same-picks (suc (suc zero)) h = same-levels 0 2 (c .first-re) (figure-codes b .first-re) .sizes
@@ -149,7 +152,7 @@ unbarred true v e = sym (bar-twice v) ∙ ap barDigit e ∙ bar-twice 1
 unbarred false v e = e
 
 -- picks that agree on all blocks of bits are one
-same-pick : (p q : Pick) → q .place < 8 → ((b : List ℕ) → length b ≡ 8 → Every (atMost 1 b) 8 → pick b p ≡ pick b q) → p ≡ q
+same-pick : (p q : Pick) → q .place < 8 → ((b : List ℕ) → length b ≡ 8 → Every (atMost 1 b) 8 → pick barDigit b p ≡ pick barDigit b q) → p ≡ q
 unfolding pick
 same-pick p q h same =
     ap₂ (λ (k : ℕ) (x : Bool). record { place = k; barred = x }) places bars
@@ -163,7 +166,7 @@ same-pick p q h same =
         (unbarred (q .barred) _ (rw (bars, one-here (q .place) h) at (same (one (q .place)) (one-length (q .place)) (one-bits (q .place)))))
 
 -- a pick of a list of picks
-picked-at : (ps : List Pick) (b : List ℕ) (k : ℕ) (z : Pick) → k < length ps → getD (picked ps b) k 0 ≡ pick b (getD ps k z)
+picked-at : (ps : List Pick) (b : List ℕ) (k : ℕ) (z : Pick) → k < length ps → getD (picked barDigit ps b) k 0 ≡ pick barDigit b (getD ps k z)
 unfolding picked
 picked-at [] b k z h = absurd (not-suc-le-zero h)
 picked-at (p ∷ ps) b zero z h = refl
@@ -183,13 +186,13 @@ figure-only ps eight right =
 -- ---- the subframes
 
 pub subframe-codes : SubframeCodes
-unfolding secondOf eights
+unfolding coded eights
 subframe-codes d long k h =
-    rw (blockwise-part 240 8 (picked figure8A) eight-long d long k h) (figure-codes (part k 8 d))
+    rw (long, blockwise-part 240 8 (picked barDigit figure8A) (eight-long barDigit) d long k h) (figure-codes (part k 8 d))
 
 -- format 0 by the laws of the second antenna: the values of what antenna 2 sends are what it would send of the values
 pub subframe-codes-fours : SubframeCodesFours
-unfolding secondOf
+unfolding coded
 subframe-codes-fours d long k h =
     let n : length (part k 4 d) ≡ 4 = part-length k 240 4 d h long in
     let m : length (map digitValue (part k 4 d)) ≡ 4 = length-map (part k 4 d) digitValue ∙ n in

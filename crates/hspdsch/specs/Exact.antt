@@ -9,8 +9,8 @@ use Rattle.run.specs.declared.Verdict.{Verdict}
 use Rattle.run.specs.Pairs.{PairGiven}
 use Rattle.run.specs.Verdicts.{done, Narrow}
 use Rattle.sttd.specs.Rule.{barDigit}
-use Rattle.hspdsch.specs.Rule.{size, secondOf}
-use Rattle.hspdsch.specs.Outcome.{mapVerdict, Map, Second, readVerdict, Read}
+use Rattle.hspdsch.specs.Rule.{size, plain, bar, picked, secondOf}
+use Rattle.hspdsch.specs.Outcome.{mapVerdict, Map, readVerdict, Read}
 
 -- map takes the data, for two subframes of the format's length
 abbrev pub TakenBoth : ℕ → List ℕ → Type 0
@@ -68,9 +68,6 @@ abbrev pub MapOnce : Type 0
 MapOnce =
     (format : ℕ) (d antenna1 antenna2 : List ℕ) (a b : Verdict) (x1 x2 y1 y2 : List ℕ) → Map format d antenna1 antenna2 a x1 x2 → Map format d antenna1 antenna2 b y1 y2
     → (a ≡ b) × (x1 ≡ y1) × (x2 ≡ y2)
-
-abbrev pub SecondOnce : Type 0
-SecondOnce = (format : ℕ) (d antenna2 : List ℕ) (a b : Verdict) (x y : List ℕ) → Second format d antenna2 a x → Second format d antenna2 b y → (a ≡ b) × (x ≡ y)
 
 abbrev pub ReadOnce : Type 0
 ReadOnce =

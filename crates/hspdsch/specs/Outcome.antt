@@ -1,8 +1,10 @@
 -- docs/RULES.md, 'HS-PDSCH': what each call answers and leaves in each lent run, for all inputs.
 -- Assumes nothing.
-use Prim.Native.Nat.{ℕ}
+use Prim.Native.Nat.{ℕ, _%_}
 use mathlib.Core.Path.{_≡_}
+use mathlib.Core.Bool.{cond, _&&_}
 use mathlib.Core.List.{List, [], _∷_}
+use lib.Bits.{bitXor}
 use lib.Dec.{eqb}
 use lib.ListN.{length}
 use Rattle.run.specs.declared.Verdict.{Verdict}
@@ -10,7 +12,7 @@ use Rattle.run.specs.First.{atMost, agree}
 use Rattle.run.specs.Refusals.{digitRefused, frameRefused}
 use Rattle.run.specs.Verdicts.{orElse, each, leaves}
 use Rattle.dpch.specs.Heads.{frameHead}
-use Rattle.hspdsch.specs.Rule.{size, secondOf}
+use Rattle.hspdsch.specs.Rule.{size, coded, secondOf}
 
 -- map: 1, 3 (data, antenna 1, antenna 2), 4 above 1
 unfoldable pub mapVerdict : ℕ → List ℕ → ℕ → ℕ → Verdict
@@ -22,11 +24,6 @@ pub record Map (format : ℕ) (d antenna1 antenna2 : List ℕ) (answer : Verdict
   pub verdict-is : answer ≡ mapVerdict format d (length antenna1) (length antenna2)
   pub antenna1-is : antenna1-after ≡ leaves (mapVerdict format d (length antenna1) (length antenna2)) d antenna1
   pub antenna2-is : antenna2-after ≡ leaves (mapVerdict format d (length antenna1) (length antenna2)) (secondOf format d) antenna2
-
--- the part `second`: antenna 2 alone, as where antenna 1 has its length
-pub record Second (format : ℕ) (d antenna2 : List ℕ) (answer : Verdict) (antenna2-after : List ℕ) : Type 0 where
-  pub verdict-is : answer ≡ mapVerdict format d (size format) (length antenna2)
-  pub antenna2-is : antenna2-after ≡ leaves (mapVerdict format d (size format) (length antenna2)) (secondOf format d) antenna2
 
 -- read: 1, 3 (antenna 1, antenna 2, data) ..
 unfoldable pub readHead : ℕ → ℕ → ℕ → ℕ → Verdict
@@ -47,3 +44,11 @@ readVerdict format antenna1 antenna2 dataLength =
 pub record Read (format : ℕ) (antenna1 antenna2 d : List ℕ) (answer : Verdict) (d-after : List ℕ) : Type 0 where
   pub verdict-is : answer ≡ readVerdict format antenna1 antenna2 (length d)
   pub data-is : d-after ≡ leaves (readVerdict format antenna1 antenna2 (length d)) antenna1 d
+
+-- a number with its lowest bit changed: of a bit the other, which is its bar
+unfoldable pub flip : ℕ → ℕ
+flip d = bitXor d 1
+
+-- the part `encode`, which asks no digit whether it is a bit: a run of whole eights is encoded, with `flip` for the bar, into a run of its length; any other run is left as it was
+unfoldable pub encodedOver : ℕ → List ℕ → List ℕ → List ℕ
+encodedOver format input out = cond (eqb (length input % 8) 0 && eqb (length out) (length input)) (coded flip format input) out

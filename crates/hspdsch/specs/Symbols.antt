@@ -8,7 +8,7 @@ use lib.IntN.{ℤ, pos, negℤ, _*ℤ_}
 use lib.ListN.{length, getD}
 use Rattle.run.specs.First.{Every, atMost}
 use Rattle.run.specs.Parts.{part}
-use Rattle.sttd.specs.Rule.{digitValue}
+use Rattle.sttd.specs.Rule.{barDigit, digitValue}
 use Rattle.hspdsch.specs.Rule.{Pick, picked, figure8A, secondOf}
 
 -- a part of a 16QAM symbol: the sign, +1 for 0 and -1 for 1, times the size, 1 for 0 and 3 for 1 (TS 25.213: i1 and q1 are the signs, i2 and q2 the sizes)
@@ -31,12 +31,12 @@ pub record Coded (b c : List ℕ) : Type 0 where
 
 -- so it is for every block ..
 abbrev pub FigureCodes : Type 0
-FigureCodes = (b : List ℕ) → Coded b (picked figure8A b)
+FigureCodes = (b : List ℕ) → Coded b (picked barDigit figure8A b)
 
 -- .. and no other eight places and bars do that for all blocks of eight bits
 abbrev pub FigureOnly : Type 0
 FigureOnly =
-    (ps : List Pick) → length ps ≡ 8 → ((b : List ℕ) → length b ≡ 8 → Every (atMost 1 b) 8 → Coded b (picked ps b)) → ps ≡ figure8A
+    (ps : List Pick) → length ps ≡ 8 → ((b : List ℕ) → length b ≡ 8 → Every (atMost 1 b) 8 → Coded b (picked barDigit ps b)) → ps ≡ figure8A
 
 -- of a subframe of format 1, block after block
 abbrev pub SubframeCodes : Type 0

@@ -1,14 +1,11 @@
-// The high-speed data channel on two antennas, mapped: docs/RULES.md, 'HS-PDSCH'; TS 25.211, 5.3.3.13, table 26, and 5.3.1.1.1, figures 8 and 8A.
-use run::Verdict;
-use run::found;
-use run::refusal;
+// The high-speed data channel on two antennas: its rule, promises and theorems, and what antenna 2 sends where antenna 1's digits are known:
+// docs/RULES.md, 'HS-PDSCH'; TS 25.211, 5.3.3.13, table 26, and 5.3.1.1.1, figures 8 and 8A.
 ghost use mathlib.Core.Path.{_≡_};
-ghost use mathlib.Core.List.{_++_};
-ghost use Prim.Native.Nat.{_≤_};
-ghost use lib.ListN.{length, take, drop};
-ghost use Rattle.run.specs.First.{Every, atMost};
-ghost use Rattle.hspdsch.specs.Rule.{size, picked, figure8A, eights, secondOf};
-ghost use Rattle.hspdsch.specs.Outcome.{mapVerdict, Map, Second};
+ghost use Prim.Native.Nat.{_%_};
+ghost use lib.ListN.{length};
+ghost use Rattle.sttd.specs.Rule.{sttd};
+ghost use Rattle.hspdsch.specs.Rule.{size, picked, figure8A, eights};
+ghost use Rattle.hspdsch.specs.Outcome.{flip, encodedOver};
 
 // The digits of a subframe, 0 where there is no such format.
 pub fn size_of(format: usize) -> usize
@@ -21,10 +18,37 @@ pub fn size_of(format: usize) -> usize
     }
 }
 
-// One block of bits. The bar of a bit is its other value. All are read before one is written: then they are written at once.
+// One block of QPSK, figure 8. The bar of a bit is its other value. All are read before one is written: then they are written at once.
+fn encode_four(input: &[u8], out: &mut [u8])
+    requires { ⌜ (length (now input) ≡ 4) × (length (now out) ≡ 4) ⌝ }
+    ensures { λ _. ⌜ now (out .exit) ≡ sttd flip (now (input .entry)) ⌝ }
+{
+    let b0 = input[0];
+    let b1 = input[1];
+    let b2 = input[2];
+    let b3 = input[3];
+    out[0] = b2 ^ 1;
+    out[1] = b3;
+    out[2] = b0;
+    out[3] = b1 ^ 1;
+}
+
+fn encode_fours(input: &[u8], out: &mut [u8])
+    requires { ⌜ (length (now input) % 4 ≡ 0) × (length (now out) ≡ length (now input)) ⌝ }
+    ensures { λ _. ⌜ now (out .exit) ≡ sttd flip (now (input .entry)) ⌝ }
+{
+    let mut i = 0;
+    while i < input.len() {
+        let e = i + 4;
+        encode_four(&input[i..e], &mut out[i..e]);
+        i = e;
+    }
+}
+
+// One block of 16QAM, figure 8A.
 fn encode_eight(input: &[u8], out: &mut [u8])
-    requires { ⌜ (length (now input) ≡ 8) × (length (now out) ≡ 8) × Every (atMost 1 (now input)) (length (now input)) ⌝ }
-    ensures { λ _. ⌜ now (out .exit) ≡ picked figure8A (now (input .entry)) ⌝ }
+    requires { ⌜ (length (now input) ≡ 8) × (length (now out) ≡ 8) ⌝ }
+    ensures { λ _. ⌜ now (out .exit) ≡ picked flip figure8A (now (input .entry)) ⌝ }
 {
     let b0 = input[0];
     let b1 = input[1];
@@ -44,72 +68,31 @@ fn encode_eight(input: &[u8], out: &mut [u8])
     out[7] = b3;
 }
 
-// Two blocks, which the compiler takes at once.
-fn encode_two(input: &[u8], out: &mut [u8])
-    requires { ⌜ (length (now input) ≡ 16) × (length (now out) ≡ 16) × Every (atMost 1 (now input)) (length (now input)) ⌝ }
-    ensures { λ _. ⌜ now (out .exit) ≡ picked figure8A (take 8 (now (input .entry))) ++ picked figure8A (drop 8 (now (input .entry))) ⌝ }
-{
-    encode_eight(&input[0..8], &mut out[0..8]);
-    encode_eight(&input[8..16], &mut out[8..16]);
-}
-
-// Two blocks after two.
 fn encode_eights(input: &[u8], out: &mut [u8])
-    requires { ⌜ (length (now input) ≡ 1920) × (length (now out) ≡ 1920) × Every (atMost 1 (now input)) (length (now input)) ⌝ }
-    ensures { λ _. ⌜ now (out .exit) ≡ eights (now (input .entry)) ⌝ }
+    requires { ⌜ (length (now input) % 8 ≡ 0) × (length (now out) ≡ length (now input)) ⌝ }
+    ensures { λ _. ⌜ now (out .exit) ≡ eights flip (now (input .entry)) ⌝ }
 {
     let mut i = 0;
-    while i < 1920 {
-        let e = i + 16;
-        encode_two(&input[i..e], &mut out[i..e]);
+    while i < input.len() {
+        let e = i + 8;
+        encode_eight(&input[i..e], &mut out[i..e]);
         i = e;
     }
 }
 
-// Antenna 2's digits of data that no check refused.
-fn write_second(format: usize, data: &[u8], antenna2: &mut [u8])
-    requires { ⌜ (format ≤ 1) × (length (now «data») ≡ size format) × (length (now antenna2) ≡ size format) × Every (atMost 1 (now «data»)) (length (now «data»)) ⌝ }
-    ensures { λ _. ⌜ now (antenna2 .exit) ≡ secondOf format (now («data» .entry)) ⌝ }
+// What antenna 2 sends of bits. No digit is asked whether it is one: the callers know. Runs that are not of one length of whole eights are left as they were.
+pub fn encode(format: usize, input: &[u8], out: &mut [u8])
+    ensures { λ _. ⌜ now (out .exit) ≡ encodedOver format (now (input .entry)) (now (out .entry)) ⌝ }
 {
-    if format == 0 {
-        sttd::encode(data, antenna2);
+    if input.len() % 8 != 0 {
         return;
     }
-    encode_eights(data, antenna2);
-}
-
-fn map_verdict(format: usize, data: &[u8], length1: usize, length2: usize) -> Verdict
-    ensures { λ r. ⌜ r ≡ mapVerdict format (now («data» .entry)) length1 length2 ⌝ }
-{
-    let n = size_of(format);
-    let head = dpch::frame_head(1, format, data.len() == n, length1 == n, length2 == n, true);
-    if head.number != 0 {
-        return head;
+    if out.len() != input.len() {
+        return;
     }
-    found(data, scan::first_above(data, 1), refusal::DIGIT, 0)
-}
-
-// Antenna 2 alone: what it sends of the data, or the refusal and `antenna2` as it was.
-pub fn second(format: usize, data: &[u8], antenna2: &mut [u8]) -> Verdict
-    ensures { λ r. ⌜ Second format (now («data» .entry)) (now (antenna2 .entry)) r (now (antenna2 .exit)) ⌝ }
-{
-    let verdict = map_verdict(format, data, size_of(format), antenna2.len());
-    if verdict.number != 0 {
-        return verdict;
+    if format == 0 {
+        encode_fours(input, out);
+        return;
     }
-    write_second(format, data, antenna2);
-    verdict
-}
-
-// The subframes of both antennas, or the refusal and the subframes as they were.
-pub fn map(format: usize, data: &[u8], antenna1: &mut [u8], antenna2: &mut [u8]) -> Verdict
-    ensures { λ r. ⌜ Map format (now («data» .entry)) (now (antenna1 .entry)) (now (antenna2 .entry)) r (now (antenna1 .exit)) (now (antenna2 .exit)) ⌝ }
-{
-    let verdict = map_verdict(format, data, antenna1.len(), antenna2.len());
-    if verdict.number != 0 {
-        return verdict;
-    }
-    write_second(format, data, antenna2);
-    write::copy(antenna1, data);
-    verdict
+    encode_eights(input, out);
 }

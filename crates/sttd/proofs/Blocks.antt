@@ -83,7 +83,7 @@ unfolding blockwise
 fours A bar m s long =
     sym (joined-part m 4 (sttd bar s) (sttd-length bar s ∙ long)) ∙ ap joined (tab-same m _ _ (λ k h. sym (four-part bar s k)))
 
--- a run that f makes part by part, of w entries each: the part from i on is lent, and comes back made
-pub part-more : {A : Type 0} (f : List A → List A) (w : ℕ) {d out₀ out ys : List A} {i : ℕ} → i + w ≤ length out₀ → Front (f d) out₀ out i
-    → f (take w (drop i d)) ≡ take w (drop i (f d)) → ys ≡ f (take (i + w - i) (drop i d)) → Front (f d) out₀ (putMid i (i + w - i) out ys) (i + w)
-part-more f w {i = i} room front by y = front-part (i + w) front (omega arith) room (y ∙ rw (part-width i w) by)
+-- one part more of t is written, whose part from i on is what g makes of the part of d
+pub part-more : {A : Type 0} (g : List A → List A) (d : List A) (w : ℕ) {t out₀ out ys : List A} {i : ℕ} → i + w ≤ length out₀ → Front t out₀ out i
+    → g (take w (drop i d)) ≡ take w (drop i t) → ys ≡ g (take (i + w - i) (drop i d)) → Front t out₀ (putMid i (i + w - i) out ys) (i + w)
+part-more g d w {i = i} room front made y = front-part (i + w) front (omega arith) room (y ∙ rw (part-width i w) made)

@@ -72,7 +72,7 @@ same-length c =
 returns : tie.Need-returns
 returns c =
     let start = c .before .before .before .before .before .before .before .before in
-    eight-stored (start .args .input .now) (start .args .out .now) (start .pre .0) (start .pre .1) (start .pre .2)
+    eight-stored (start .args .input .now) (start .args .out .now) (start .pre .1)
 
 pub encode-eight-spec : {M : Type 1} → statement M
 encode-eight-spec =
