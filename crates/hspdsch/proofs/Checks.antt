@@ -3,7 +3,7 @@
 use mathlib.Core.Path.{_≡_, refl, sym, ap, _∙_}
 use mathlib.Core.Bool.{Bool, true}
 use mathlib.Core.List.{List, [], _∷_}
-use Prim.Native.Nat.{ℕ, _≤_, _<_}
+use Prim.Native.Nat.{ℕ, _%_, _≤_, _<_}
 use native.Mathlib.Omega.{arith}
 use borrow.Author.Tests.{eqb-true, eq-eqb}
 use lib.Dec.{eqb, lit<}
@@ -15,8 +15,8 @@ use Rattle.run.proofs.Chain.{or-else-done, each-done, or-else-pass, each-pass, 
 use Rattle.dpch.specs.Heads.{frameHead}
 use Rattle.dpch.proofs.Heads.{head-three, frame-headed, frame-head-pass, frame-head-narrow}
 use Rattle.hspdsch.specs.Rule.{size, secondOf}
-use Rattle.hspdsch.specs.Outcome.{mapVerdict, readHead, readBody, readVerdict}
-use Rattle.hspdsch.proofs.Laws.{size-small}
+use Rattle.hspdsch.specs.Outcome.{mapVerdict, readHead, readBody, readVerdict, encodedOver}
+use Rattle.hspdsch.proofs.Laws.{size-whole, size-small, coded-flip}
 
 -- the head as the code asks for it
 pub head-is : (format n a b c : ℕ) (r : Verdict) → n ≡ size format → r ≡ frameHead 1 format (eqb a n ∷ eqb b n ∷ eqb c n ∷ true ∷ [])
@@ -45,6 +45,15 @@ module _ (format : ℕ) (d : List ℕ) (length1 length2 : ℕ) where
         second-ok = eqb-true _ _ (p .right-ok 2 (lit< tt));
         bits = each-done 0 4 _ _ (lit< tt) (c .rest);
       }
+
+  -- what is taken is whole eights of bits, so the encoder writes what antenna 2 sends
+  pub taken-coded : Taken format d length1 length2 → (out : List ℕ) {after : List ℕ} → length out ≡ length2 → after ≡ encodedOver format d out → after ≡ secondOf format d
+  unfolding encodedOver
+  taken-coded t out room e =
+      let w = size-whole format (t .format-ok) in
+      let n = t .long in
+      let m = t .second-ok in
+      e ∙ rw (eq-eqb (length d % 8) 0 (omega arith), eq-eqb (length out) (length d) (omega arith)) (coded-flip format d (t .bits))
 
   pub taken-pass : Taken format d length1 length2 → mapVerdict format d length1 length2 ≡ done
   unfolding mapVerdict

@@ -1,4 +1,4 @@
-// HS-PDSCH for a C host: each call is that of the crates `hspdsch` and `hspdsch_read`, with the answer packed in one number (docs/INTERFACE.md).
+// HS-PDSCH for a C host: each call is that of the crates `hspdsch_map` and `hspdsch_read`, with the answer packed in one number (docs/INTERFACE.md).
 use packed::pack;
 ghost use Rattle.slt_hspdsch.specs.Outcome.{HspdschMap, HspdschRead};
 
@@ -11,7 +11,7 @@ pub extern "C" fn slt_hspdsch_map(
 ) -> u64
     ensures { λ r. ⌜ HspdschMap format (now («data» .entry)) (now (antenna1 .entry)) (now (antenna2 .entry)) r (now (antenna1 .exit)) (now (antenna2 .exit)) ⌝ }
 {
-    pack(hspdsch::map(format, data, antenna1, antenna2), 0)
+    pack(hspdsch_map::map(format, data, antenna1, antenna2), 0)
 }
 
 #[no_mangle]
