@@ -1,6 +1,36 @@
-/* The HS-PDSCH subframe on two antennas in tight C. */
+/* The HS-PDSCH subframe on two antennas in tight C. A block is one word: its halves change places, and a few of its bits change. */
 #include "hspdsch.h"
 #include "yardsticks.h"
+
+static inline void second_in_fours(const uint8_t *restrict data, uint8_t *restrict other) {
+    static const uint8_t BARS[4] = {1, 0, 0, 1};
+    uint32_t bars, word;
+    memcpy(&bars, BARS, sizeof bars);
+    for (size_t d = 0; d < QPSK; d += sizeof word) {
+        memcpy(&word, data + d, sizeof word);
+        word = (word >> 16 | word << 16) ^ bars;
+        memcpy(other + d, &word, sizeof word);
+    }
+}
+
+static inline void second_in_eights(const uint8_t *restrict data, uint8_t *restrict other) {
+    static const uint8_t BARS[8] = {1, 0, 0, 0, 0, 1, 0, 0};
+    uint64_t bars, word;
+    memcpy(&bars, BARS, sizeof bars);
+    for (size_t d = 0; d < QAM; d += sizeof word) {
+        memcpy(&word, data + d, sizeof word);
+        word = (word >> 32 | word << 32) ^ bars;
+        memcpy(other + d, &word, sizeof word);
+    }
+}
+
+static inline void second_of(size_t format, const uint8_t *data, uint8_t *other) {
+    if (format == 0) {
+        second_in_fours(data, other);
+    } else {
+        second_in_eights(data, other);
+    }
+}
 
 uint64_t tight_hspdsch_map(size_t format, const uint8_t *data, size_t n_data, uint8_t *antenna1, size_t n1, uint8_t *antenna2,
                            size_t n2) {

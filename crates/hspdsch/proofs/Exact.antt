@@ -1,18 +1,25 @@
 -- The theorems of specs/Exact.antt.
 -- Assumes nothing.
 use mathlib.Core.Path.{_≡_, refl, sym, _∙_, subst}
-use mathlib.Core.List.{List}
+use mathlib.Core.List.{List, [], _∷_}
 use Prim.Native.Nat.{ℕ}
 use native.Mathlib.Omega.{arith}
+use lib.ListN.{length, getD}
 use Rattle.run.specs.Pairs.{Reads, PairRead}
+use Rattle.run.specs.Table.{tab}
 use Rattle.run.specs.Verdicts.{done}
 use Rattle.run.proofs.Chain.{one-outcome, number-0}
 use Rattle.run.proofs.First.{no-diff, diff-none}
 use Rattle.run.proofs.Pairs.{pairs-exact}
-use Rattle.hspdsch.specs.Rule.{slotSizes, size, coded, secondOf}
+use Rattle.run.proofs.Table.{tab-is}
+use Rattle.sttd.specs.Rule.{barDigit}
+use Rattle.sttd.proofs.Bars.{bar-twice}
+use Rattle.sttd.proofs.Blocks.{any-blocks}
+use Rattle.sttd.proofs.Exact.{rule-laws}
+use Rattle.hspdsch.specs.Rule.{slotSizes, size, Pick, plain, bar, pick, picked, figure8A, eights, coded, secondOf}
 use Rattle.hspdsch.specs.Outcome.{mapVerdict, readVerdict}
-use Rattle.hspdsch.specs.Exact.{TakenBoth, asItIs, ReadExact, Sizes, ByEights, ByFours, MapOnce, ReadOnce, Packs}
-use Rattle.hspdsch.proofs.Laws.{size-whole, second-length, second-bits, eight-placed, four-placed}
+use Rattle.hspdsch.specs.Exact.{TakenBoth, asItIs, ReadExact, Sizes, ByEights, ByFours, SecondTells, MapOnce, ReadOnce, Packs}
+use Rattle.hspdsch.proofs.Laws.{eight-long, by-format, size-whole, second-length, second-bits, eight-placed, four-placed}
 use Rattle.hspdsch.proofs.Checks.{Taken, taken, taken-pass, map-narrow, Accepted, accepted, accepted-pass, read-narrow}
 
 -- ---- the law of pairs, at antenna 1 as the data and antenna 2 as what it gives
@@ -81,6 +88,22 @@ by-eights d long k h = eight-placed d (omega arith) k (omega arith)
 pub by-fours : ByFours
 unfolding coded
 by-fours = four-placed
+
+-- ---- antenna 2 read back, block by block
+
+figureBack : List Pick
+figureBack = plain 4 ∷ bar 5 ∷ plain 6 ∷ plain 7 ∷ bar 0 ∷ plain 1 ∷ plain 2 ∷ plain 3 ∷ []
+
+undone : (b : List ℕ) → length b ≡ 8 → picked barDigit figureBack (picked barDigit figure8A b) ≡ b
+unfolding picked pick figureBack tab
+undone b long = rw (bar-twice (getD b 1 0), bar-twice (getD b 4 0)) (sym (tab-is 0 b 8 (λ (k : ℕ). getD b k 0) long (λ k h. refl)))
+
+pub second-tells : SecondTells
+unfolding coded eights size slotSizes
+second-tells =
+    by-format (λ (f : ℕ). (d e : List ℕ) → length d ≡ size f → length e ≡ size f → secondOf f d ≡ secondOf f e → d ≡ e)
+    (λ d e p q same. rule-laws ℕ barDigit .one-input bar-twice d e same)
+    (λ d e p q same. any-blocks ℕ 240 8 (picked barDigit figure8A) (eight-long barDigit) .one-input (picked barDigit figureBack) undone d e p q (rw (p, q) at same))
 
 pub map-once : MapOnce
 map-once format d antenna1 antenna2 a b x1 x2 y1 y2 p r =

@@ -56,11 +56,25 @@ four-block (a ∷ b ∷ c ∷ []) h = absurd (let z : ⊥ = omega arith in z)
 four-block (a ∷ b ∷ c ∷ d ∷ []) h = refl
 four-block (a ∷ b ∷ c ∷ d ∷ e ∷ s) h = absurd (let z : ⊥ = omega arith in z)
 
-pub four-stored : (input out : List ℕ) → length input ≡ 4 → length out ≡ 4
-    → sets out 0 (bitXor (getD input 2 0) 1 ∷ getD input 3 0 ∷ getD input 0 0 ∷ bitXor (getD input 1 0) 1 ∷ []) ≡ sttd flip input
+two-blocks : (input : List ℕ) → length input ≡ 8
+    → flip (getD input 2 0) ∷ getD input 3 0 ∷ getD input 0 0 ∷ flip (getD input 1 0) ∷ flip (getD input 6 0) ∷ getD input 7 0 ∷ getD input 4 0 ∷ flip (getD input 5 0) ∷ [] ≡ sttd flip input
+unfolding sttd
+two-blocks [] h = absurd (let z : ⊥ = omega arith in z)
+two-blocks (a ∷ []) h = absurd (let z : ⊥ = omega arith in z)
+two-blocks (a ∷ b ∷ []) h = absurd (let z : ⊥ = omega arith in z)
+two-blocks (a ∷ b ∷ c ∷ []) h = absurd (let z : ⊥ = omega arith in z)
+two-blocks (a ∷ b ∷ c ∷ d ∷ s) h = ap (λ (l : List ℕ). flip c ∷ d ∷ a ∷ flip b ∷ l) (four-block s (omega arith))
+
+pub fours-stored : (input out : List ℕ) → length input ≡ 8 → length out ≡ 8
+    → sets out 0
+    (bitXor (getD input 2 0) 1 ∷ getD input 3 0 ∷ getD input 0 0 ∷ bitXor (getD input 1 0) 1 ∷ bitXor (getD input 6 0) 1 ∷ getD input 7 0 ∷ getD input 4 0 ∷ bitXor (getD input 5 0) 1 ∷ [])
+    ≡ sttd flip input
 unfolding flip
-four-stored input out long room =
-    all-stored (bitXor (getD input 2 0) 1 ∷ getD input 3 0 ∷ getD input 0 0 ∷ bitXor (getD input 1 0) 1 ∷ []) out (sym room) ∙ four-block input long
+fours-stored input out long room =
+    all-stored
+    (bitXor (getD input 2 0) 1 ∷ getD input 3 0 ∷ getD input 0 0 ∷ bitXor (getD input 1 0) 1 ∷ bitXor (getD input 6 0) 1 ∷ getD input 7 0 ∷ getD input 4 0 ∷ bitXor (getD input 5 0) 1 ∷ [])
+    out (sym room)
+    ∙ two-blocks input long
 
 -- ---- stretch by stretch
 

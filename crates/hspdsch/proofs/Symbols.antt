@@ -3,7 +3,7 @@
 use mathlib.Core.Path.{_≡_, refl, sym, ap, ap₂, _∙_}
 use mathlib.Core.Bool.{Bool, true, false, cond}
 use mathlib.Core.List.{List, [], _∷_, map}
-use Prim.Native.Nat.{ℕ, zero, suc, _+_, _*_, _/_, _≤_, _<_}
+use Prim.Native.Nat.{ℕ, zero, suc, _+_, _*_, _/_, _%_, _≤_, _<_}
 use native.Mathlib.Nat.{mul-comm, not-suc-le-zero, le-of-suc-le-suc}
 use native.Mathlib.Omega.{arith}
 use borrow.Author.Tests.{eqb-true, eq-eqb, leb-true, ltb-true, ltb-false}
@@ -20,11 +20,11 @@ use Rattle.whole.proofs.Laws.{neg-*ℤ}
 use Rattle.sttd.specs.Rule.{sttd, barDigit, digitValue}
 use Rattle.sttd.proofs.Bars.{bar-twice, bar-negates}
 use Rattle.sttd.proofs.Antenna2.{values-encoded, both-bars}
-use Rattle.sttd.proofs.Blocks.{blockwise-part, four-part}
+use Rattle.sttd.proofs.Blocks.{blockwise-part, blockwise-next, four-part}
 use Rattle.sttd.proofs.Laws.{block-at}
 use Rattle.hspdsch.specs.Rule.{Pick, plain, bar, pick, picked, figure8A, eights, coded}
-use Rattle.hspdsch.proofs.Laws.{eight-long, picked-bit}
-use Rattle.hspdsch.specs.Symbols.{level, inPhase, quadrature, Coded, FigureCodes, FigureOnly, SubframeCodes, CodedFour, SubframeCodesFours}
+use Rattle.hspdsch.proofs.Laws.{eight-long, eights-length, picked-bit}
+use Rattle.hspdsch.specs.Symbols.{level, inPhase, quadrature, Coded, FigureCodes, FigureOnly, SubframeCodes, CodedFour, SubframeCodesFours, TwiceSigns}
 
 -- ---- the figure codes
 
@@ -199,3 +199,9 @@ subframe-codes-fours d long k h =
     let b = block-at negℤ (map digitValue (part k 4 d)) (pos 0) 0 refl (omega arith) in
     rw (← four-part barDigit d k, values-encoded ℕ barDigit digitValue (both-bars .of-digits) (part k 4 d))
     (record { first-re = b .first; first-im = b .second; second-re = b .third; second-im = b .fourth })
+
+pub twice-signs : TwiceSigns
+unfolding coded eights picked pick
+twice-signs d long =
+    let n = eights-length barDigit d (ap (λ (k : ℕ). k % 8) long) ∙ long in
+    rw (n, long) (blockwise-next 240 8 (picked barDigit figure8A) (eight-long barDigit) d long (picked barDigit figure8A))

@@ -9,7 +9,7 @@ use Rattle.run.specs.declared.Verdict.{Verdict}
 use Rattle.run.specs.Pairs.{PairGiven}
 use Rattle.run.specs.Verdicts.{done, Narrow}
 use Rattle.sttd.specs.Rule.{barDigit}
-use Rattle.hspdsch.specs.Rule.{size, plain, bar, picked, secondOf}
+use Rattle.hspdsch.specs.Rule.{size, secondOf}
 use Rattle.hspdsch.specs.Outcome.{mapVerdict, Map, readVerdict, Read}
 
 -- map takes the data, for two subframes of the format's length
@@ -62,6 +62,11 @@ pub record Four (d c : List ℕ) (i : ℕ) : Type 0 where
 
 abbrev pub ByFours : Type 0
 ByFours = (d : List ℕ) → length d ≡ 960 → (k : ℕ) → k < 240 → Four d (secondOf 0 d) (4 * k)
+
+-- antenna 2 alone tells the data too: two runs of data that give one antenna 2 are equal
+abbrev pub SecondTells : Type 0
+SecondTells =
+    (format : ℕ) → format ≤ 1 → (d e : List ℕ) → length d ≡ size format → length e ≡ size format → secondOf format d ≡ secondOf format e → d ≡ e
 
 -- each promise allows one outcome
 abbrev pub MapOnce : Type 0

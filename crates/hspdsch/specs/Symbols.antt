@@ -3,13 +3,14 @@
 -- Assumes nothing.
 use Prim.Native.Nat.{ℕ, _+_, _*_, _<_}
 use mathlib.Core.Path.{_≡_}
-use mathlib.Core.List.{List, map}
+use mathlib.Core.List.{List, [], _∷_, map}
 use lib.IntN.{ℤ, pos, negℤ, _*ℤ_}
 use lib.ListN.{length, getD}
 use Rattle.run.specs.First.{Every, atMost}
 use Rattle.run.specs.Parts.{part}
+use Rattle.sttd.specs.Blocks.{blockwise}
 use Rattle.sttd.specs.Rule.{barDigit, digitValue}
-use Rattle.hspdsch.specs.Rule.{Pick, picked, figure8A, secondOf}
+use Rattle.hspdsch.specs.Rule.{Pick, plain, bar, picked, figure8A, secondOf}
 
 -- a part of a 16QAM symbol: the sign, +1 for 0 and -1 for 1, times the size, 1 for 0 and 3 for 1 (TS 25.213: i1 and q1 are the signs, i2 and q2 the sizes)
 unfoldable pub level : ℕ → ℕ → ℤ
@@ -52,3 +53,10 @@ pub record CodedFour (b c : List ℤ) : Type 0 where
 abbrev pub SubframeCodesFours : Type 0
 SubframeCodesFours =
     (d : List ℕ) → length d ≡ 960 → (k : ℕ) → k < 240 → CodedFour (map digitValue (part k 4 d)) (map digitValue (part k 4 (secondOf 0 d)))
+
+-- encoding twice puts a bar on the signs of 16QAM alone; of QPSK it puts one on every digit (`twice-bars` of `sttd`)
+abbrev pub signsBarred : List Pick
+signsBarred = bar 0 ∷ bar 1 ∷ plain 2 ∷ plain 3 ∷ bar 4 ∷ bar 5 ∷ plain 6 ∷ plain 7 ∷ []
+
+abbrev pub TwiceSigns : Type 0
+TwiceSigns = (d : List ℕ) → length d ≡ 1920 → secondOf 1 (secondOf 1 d) ≡ blockwise 240 8 (picked barDigit signsBarred) d

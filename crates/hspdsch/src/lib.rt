@@ -18,29 +18,37 @@ pub fn size_of(format: usize) -> usize
     }
 }
 
-// One block of QPSK, figure 8. The bar of a bit is its other value. All are read before one is written: then they are written at once.
-fn encode_four(input: &[u8], out: &mut [u8])
-    requires { ⌜ (length (now input) ≡ 4) × (length (now out) ≡ 4) ⌝ }
+// Two blocks of QPSK, figure 8. The bar of a bit is its other value. All are read before one is written: then they are written at once.
+fn encode_two_fours(input: &[u8], out: &mut [u8])
+    requires { ⌜ (length (now input) ≡ 8) × (length (now out) ≡ 8) ⌝ }
     ensures { λ _. ⌜ now (out .exit) ≡ sttd flip (now (input .entry)) ⌝ }
 {
     let b0 = input[0];
     let b1 = input[1];
     let b2 = input[2];
     let b3 = input[3];
+    let b4 = input[4];
+    let b5 = input[5];
+    let b6 = input[6];
+    let b7 = input[7];
     out[0] = b2 ^ 1;
     out[1] = b3;
     out[2] = b0;
     out[3] = b1 ^ 1;
+    out[4] = b6 ^ 1;
+    out[5] = b7;
+    out[6] = b4;
+    out[7] = b5 ^ 1;
 }
 
 fn encode_fours(input: &[u8], out: &mut [u8])
-    requires { ⌜ (length (now input) % 4 ≡ 0) × (length (now out) ≡ length (now input)) ⌝ }
+    requires { ⌜ (length (now input) % 8 ≡ 0) × (length (now out) ≡ length (now input)) ⌝ }
     ensures { λ _. ⌜ now (out .exit) ≡ sttd flip (now (input .entry)) ⌝ }
 {
     let mut i = 0;
     while i < input.len() {
-        let e = i + 4;
-        encode_four(&input[i..e], &mut out[i..e]);
+        let e = i + 8;
+        encode_two_fours(&input[i..e], &mut out[i..e]);
         i = e;
     }
 }

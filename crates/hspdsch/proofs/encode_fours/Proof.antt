@@ -1,4 +1,4 @@
--- `hspdsch::encode_fours` meets its contract: each turn writes one block more from the front on.
+-- `hspdsch::encode_fours` meets its contract: each turn writes two blocks more from the front on.
 -- Assumes nothing.
 use mathlib.Core.Path.{_≡_, refl, sym, _∙_}
 use Prim.Native.Nat.{_+_, _-_, _%_, _≤_}
@@ -15,7 +15,7 @@ use Rattle.hspdsch.proofs.encode_fours.Statement.{statement}
 use Rattle.hspdsch.proofs.encode_fours.Tie as tie
 
 abbrev Inv-loop : tie.InvT-loop
-Inv-loop input out₀ i₀ out i = (i % 4 ≡ 0) × (i ≤ length input) × Front (sttd flip input) out₀ out i
+Inv-loop input out₀ i₀ out i = (i % 8 ≡ 0) × (i ≤ length input) × Front (sttd flip input) out₀ out i
 
 abbrev μ-loop : tie.MeasureT-loop
 μ-loop input out₀ i₀ out i = length input - i
@@ -28,30 +28,30 @@ loop-holds c =
 add-e : tie.Need-add-e Inv-loop μ-loop
 add-e c = omega arith
 
-sub-encode-four : tie.Need-sub-encode-four Inv-loop μ-loop
-sub-encode-four c = omega arith
+sub-encode-two-fours : tie.Need-sub-encode-two-fours Inv-loop μ-loop
+sub-encode-two-fours c = omega arith
 
-part-encode-four-start : tie.Need-part-encode-four-start Inv-loop μ-loop
-part-encode-four-start c = omega arith
+part-encode-two-fours-start : tie.Need-part-encode-two-fours-start Inv-loop μ-loop
+part-encode-two-fours-start c = omega arith
 
-part-encode-four-end : tie.Need-part-encode-four-end Inv-loop μ-loop
-part-encode-four-end c = omega arith
+part-encode-two-fours-end : tie.Need-part-encode-two-fours-end Inv-loop μ-loop
+part-encode-two-fours-end c = omega arith
 
-sub-encode-four-2 : tie.Need-sub-encode-four-2 Inv-loop μ-loop
-sub-encode-four-2 c = omega arith
+sub-encode-two-fours-2 : tie.Need-sub-encode-two-fours-2 Inv-loop μ-loop
+sub-encode-two-fours-2 c = omega arith
 
-part-encode-four-start-2 : tie.Need-part-encode-four-start-2 Inv-loop μ-loop
-part-encode-four-start-2 c = omega arith
+part-encode-two-fours-start-2 : tie.Need-part-encode-two-fours-start-2 Inv-loop μ-loop
+part-encode-two-fours-start-2 c = omega arith
 
-part-encode-four-end-2 : tie.Need-part-encode-four-end-2 Inv-loop μ-loop
-part-encode-four-end-2 c = omega (arith, front-length (c .before .before .loop .inv .2))
+part-encode-two-fours-end-2 : tie.Need-part-encode-two-fours-end-2 Inv-loop μ-loop
+part-encode-two-fours-end-2 c = omega (arith, front-length (c .before .before .loop .inv .2))
 
-encode-four-requires : tie.Need-encode-four-requires Inv-loop μ-loop
-encode-four-requires c κs =
+encode-two-fours-requires : tie.Need-encode-two-fours-requires Inv-loop μ-loop
+encode-two-fours-requires c κs =
     let head = c .before .before .before in
     let start = head .before .before .before in
-    let p = parts-lent (start .args .input .now) (head .loop .i) (head .loop .i + 4) (head .loop .inv .2) (omega arith) (omega arith) (omega arith) in
-    (p .0 ∙ part-width _ 4, p .1 ∙ part-width _ 4)
+    let p = parts-lent (start .args .input .now) (head .loop .i) (head .loop .i + 8) (head .loop .inv .2) (omega arith) (omega arith) (omega arith) in
+    (p .0 ∙ part-width _ 8, p .1 ∙ part-width _ 8)
 
 loop-less : tie.Need-loop-less Inv-loop μ-loop
 loop-less c = omega arith
@@ -63,7 +63,7 @@ loop-again c =
     let start = turn .before .before .before .before in (
       omega arith,
       omega arith,
-      part-more (sttd flip) (start .args .input .now) 4 (omega arith) (head .loop .inv .2) (sttd-part flip (start .args .input .now) (head .loop .i) 4 (head .loop .inv .0) refl) (c .before .before .encode-four .ensures),
+      part-more (sttd flip) (start .args .input .now) 8 (omega arith) (head .loop .inv .2) (sttd-part flip (start .args .input .now) (head .loop .i) 8 (omega arith) refl) (c .before .before .encode-two-fours .ensures),
     )
 
 same-length : tie.Need-same-length Inv-loop μ-loop
@@ -80,13 +80,13 @@ encode-fours-spec =
     μ-loop
     loop-holds
     add-e
-    sub-encode-four
-    part-encode-four-start
-    part-encode-four-end
-    sub-encode-four-2
-    part-encode-four-start-2
-    part-encode-four-end-2
-    encode-four-requires
+    sub-encode-two-fours
+    part-encode-two-fours-start
+    part-encode-two-fours-end
+    sub-encode-two-fours-2
+    part-encode-two-fours-start-2
+    part-encode-two-fours-end-2
+    encode-two-fours-requires
     loop-less
     loop-again
     same-length
