@@ -33,7 +33,7 @@ extern "C" {
 
 /* The numbers of a refusal. */
 #define SLT_DONE 0u
-#define SLT_REFUSED_FORMAT 1u  /* a format that the channel's own table lacks: DPCH above 16, DPDCH above 6, DPCCH above 3 */
+#define SLT_REFUSED_FORMAT 1u  /* a format that the channel's own table lacks: DPCH above 16, DPDCH above 6, DPCCH above 3, HS-PDSCH above 1 */
 #define SLT_REFUSED_SLOT 2u    /* slot number above 14 */
 #define SLT_REFUSED_LENGTH 3u  /* a lent run has the wrong length; the place says which run */
 #define SLT_REFUSED_DIGIT 4u   /* digit not allowed */

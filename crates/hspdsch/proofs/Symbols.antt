@@ -19,12 +19,12 @@ use Rattle.run.proofs.Table.{tab-length, tab-at, table-test}
 use Rattle.whole.proofs.Laws.{neg-*ℤ}
 use Rattle.sttd.specs.Rule.{sttd, barDigit, digitValue}
 use Rattle.sttd.proofs.Bars.{bar-twice, bar-negates}
-use Rattle.sttd.proofs.Antenna2.{values-encoded, both-bars}
+use Rattle.sttd.proofs.Antenna2.{values-encoded, both-bars, twice-bars, zero-product}
 use Rattle.sttd.proofs.Blocks.{blockwise-part, blockwise-next, four-part}
 use Rattle.sttd.proofs.Laws.{block-at}
 use Rattle.hspdsch.specs.Rule.{Pick, plain, bar, pick, picked, figure8A, eights, coded}
 use Rattle.hspdsch.proofs.Laws.{eight-long, eights-length, picked-bit}
-use Rattle.hspdsch.specs.Symbols.{level, inPhase, quadrature, Coded, FigureCodes, FigureOnly, SubframeCodes, CodedFour, SubframeCodesFours, TwiceSigns}
+use Rattle.hspdsch.specs.Symbols.{level, inPhase, quadrature, Coded, FigureCodes, FigureOnly, SubframeCodes, CodedFour, SubframeCodesFours, QpskLaws, TwiceSigns}
 
 -- ---- the figure codes
 
@@ -199,6 +199,14 @@ subframe-codes-fours d long k h =
     let b = block-at negℤ (map digitValue (part k 4 d)) (pos 0) 0 refl (omega arith) in
     rw (← four-part barDigit d k, values-encoded ℕ barDigit digitValue (both-bars .of-digits) (part k 4 d))
     (record { first-re = b .first; first-im = b .second; second-re = b .third; second-im = b .fourth })
+
+pub qpsk-laws : QpskLaws
+unfolding coded
+qpsk-laws d long =
+    record {
+      twice = twice-bars ℕ barDigit d (omega arith);
+      orthogonal = λ k h. zero-product ℕ barDigit digitValue (both-bars .of-digits) d k (omega arith);
+    }
 
 pub twice-signs : TwiceSigns
 unfolding coded eights picked pick

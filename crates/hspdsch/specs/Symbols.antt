@@ -8,6 +8,7 @@ use lib.IntN.{ℤ, pos, negℤ, _*ℤ_}
 use lib.ListN.{length, getD}
 use Rattle.run.specs.First.{Every, atMost}
 use Rattle.run.specs.Parts.{part}
+use Rattle.sttd.specs.Antenna2.{Cancel}
 use Rattle.sttd.specs.Blocks.{blockwise}
 use Rattle.sttd.specs.Rule.{barDigit, digitValue}
 use Rattle.hspdsch.specs.Rule.{Pick, plain, bar, picked, figure8A, secondOf}
@@ -54,7 +55,15 @@ abbrev pub SubframeCodesFours : Type 0
 SubframeCodesFours =
     (d : List ℕ) → length d ≡ 960 → (k : ℕ) → k < 240 → CodedFour (map digitValue (part k 4 d)) (map digitValue (part k 4 (secondOf 0 d)))
 
--- encoding twice puts a bar on the signs of 16QAM alone; of QPSK it puts one on every digit (`twice-bars` of `sttd`)
+-- the laws of docs/STTD.md of format 0: encoding twice puts a bar on every digit, and the two streams are orthogonal over each block
+pub record Qpsk (d : List ℕ) : Type 0 where
+  pub twice : secondOf 0 (secondOf 0 d) ≡ map barDigit d
+  pub orthogonal : (k : ℕ) → k < 240 → Cancel (map digitValue d) (map digitValue (secondOf 0 d)) (2 * k) 2
+
+abbrev pub QpskLaws : Type 0
+QpskLaws = (d : List ℕ) → length d ≡ 960 → Qpsk d
+
+-- of format 1, encoding twice puts a bar on the signs alone
 abbrev pub signsBarred : List Pick
 signsBarred = bar 0 ∷ bar 1 ∷ plain 2 ∷ plain 3 ∷ bar 4 ∷ bar 5 ∷ plain 6 ∷ plain 7 ∷ []
 

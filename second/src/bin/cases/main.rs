@@ -12,6 +12,7 @@ mod access;
 mod antennas;
 mod case;
 mod frames;
+mod hspdsch;
 mod jobs;
 mod paging;
 mod runs;
@@ -26,7 +27,7 @@ fn main() {
         Some(other) => panic!("{other} is not --questions"),
     };
     let dedicated = [slots::all(), frames::all(), uplink::all()];
-    let others = [antennas::all(), paging::all(), access::all(), samples::all(), jobs::all()];
+    let others = [antennas::all(), paging::all(), access::all(), samples::all(), jobs::all(), hspdsch::all()];
     for case in [dedicated.concat(), others.concat()].concat() {
         if questions_only {
             println!("{}", case.question);
