@@ -17,7 +17,7 @@ use Rattle.sttd.proofs.Bars.{bar-twice}
 use Rattle.sttd.proofs.Blocks.{any-blocks}
 use Rattle.sttd.proofs.Exact.{rule-laws}
 use Rattle.hspdsch.specs.Rule.{slotSizes, size, Pick, plain, bar, pick, picked, figure8A, eights, coded, secondOf}
-use Rattle.hspdsch.specs.Outcome.{mapVerdict, readVerdict}
+use Rattle.hspdsch.specs.Outcome.{readVerdict}
 use Rattle.hspdsch.specs.Exact.{TakenBoth, asItIs, ReadExact, Sizes, ByEights, ByFours, SecondTells, MapOnce, ReadOnce, Packs}
 use Rattle.hspdsch.proofs.Laws.{eight-long, by-format, size-whole, second-length, second-bits, eight-placed, four-placed}
 use Rattle.hspdsch.proofs.Checks.{Taken, taken, taken-pass, map-narrow, Accepted, accepted, accepted-pass, read-narrow}

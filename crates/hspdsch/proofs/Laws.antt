@@ -10,13 +10,11 @@ use lib.Bits.{bitXor}
 use lib.Dec.{eqb, leb, ltb, lit<}
 use lib.ListN.{length, getD, take, drop, drop-of-length-le, length-drop, List·getD-eq-default}
 use lib.Seq.{sets, sets-eq, length-take-le, getD-take, getD-drop}
+use Rattle.run.specs.Fields.{joined}
 use Rattle.run.specs.First.{Every, atMost}
 use Rattle.run.specs.Parts.{part}
 use Rattle.run.proofs.Each.{each-take, each-drop}
-use Rattle.run.proofs.Parts.{part-length}
 use Rattle.run.proofs.Table.{tab-same}
-use Rattle.run.specs.Fields.{joined}
-use Rattle.run.specs.Table.{tab}
 use Rattle.sttd.specs.Blocks.{blockwise}
 use Rattle.sttd.specs.Rule.{sttd, barDigit}
 use Rattle.sttd.proofs.Bars.{bar-keeps-bit}

@@ -4,9 +4,9 @@ use mathlib.Core.Path.{_≡_, refl, sym, ap, ap₂, _∙_}
 use mathlib.Core.Bool.{Bool, true, false, cond}
 use mathlib.Core.List.{List, [], _∷_, map}
 use Prim.Native.Nat.{ℕ, zero, suc, _+_, _*_, _/_, _%_, _≤_, _<_}
-use native.Mathlib.Nat.{mul-comm, not-suc-le-zero, le-of-suc-le-suc}
+use native.Mathlib.Nat.{not-suc-le-zero, le-of-suc-le-suc}
 use native.Mathlib.Omega.{arith}
-use borrow.Author.Tests.{eqb-true, eq-eqb, leb-true, ltb-true, ltb-false}
+use borrow.Author.Tests.{eqb-true, eq-eqb, ltb-true, ltb-false}
 use lib.Dec.{eqb, leb, ltb}
 use lib.IntN.{ℤ, pos, negsuc, negℤ, _*ℤ_}
 use lib.ListN.{length, getD, replicate, length-map, List·getD-eq-default}
@@ -17,14 +17,14 @@ use Rattle.run.specs.Table.{tab}
 use Rattle.run.proofs.Parts.{part-length}
 use Rattle.run.proofs.Table.{tab-length, tab-at, table-test}
 use Rattle.whole.proofs.Laws.{neg-*ℤ}
-use Rattle.sttd.specs.Rule.{sttd, barDigit, digitValue}
+use Rattle.sttd.specs.Rule.{barDigit, digitValue}
 use Rattle.sttd.proofs.Bars.{bar-twice, bar-negates}
 use Rattle.sttd.proofs.Antenna2.{values-encoded, both-bars, twice-bars, zero-product}
 use Rattle.sttd.proofs.Blocks.{blockwise-part, blockwise-next, four-part}
 use Rattle.sttd.proofs.Laws.{block-at}
-use Rattle.hspdsch.specs.Rule.{Pick, plain, bar, pick, picked, figure8A, eights, coded}
+use Rattle.hspdsch.specs.Rule.{Pick, plain, pick, picked, figure8A, eights, coded}
 use Rattle.hspdsch.proofs.Laws.{eight-long, eights-length, picked-bit}
-use Rattle.hspdsch.specs.Symbols.{level, inPhase, quadrature, Coded, FigureCodes, FigureOnly, SubframeCodes, CodedFour, SubframeCodesFours, QpskLaws, TwiceSigns}
+use Rattle.hspdsch.specs.Symbols.{level, Coded, FigureCodes, FigureOnly, SubframeCodes, SubframeCodesFours, QpskLaws, TwiceSigns}
 
 -- ---- the figure codes
 

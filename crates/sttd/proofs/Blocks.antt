@@ -1,6 +1,6 @@
 -- The theorems of specs/Blocks.antt, and one part more of a run that is written from the front on.
 -- Assumes nothing.
-use Prim.Native.Nat.{ℕ, _+_, _-_, _*_, _%_, _<_, _≤_}
+use Prim.Native.Nat.{ℕ, _+_, _-_, _*_, _<_, _≤_}
 use mathlib.Core.Path.{_≡_, sym, ap, _∙_}
 use mathlib.Core.List.{List}
 use native.Mathlib.Nat.{add-mul, mul-le-mul-right}
@@ -10,13 +10,12 @@ use lib.ListN.{length, take, drop, length-drop}
 use lib.Seq.{length-take-le}
 use Rattle.run.specs.Fields.{joined}
 use Rattle.run.specs.Parts.{part}
-use Rattle.run.specs.Table.{tab}
 use Rattle.run.proofs.Front.{Front, front-part}
 use Rattle.run.proofs.Lent.{part-width}
 use Rattle.run.proofs.Parts.{part-length, part-within, part-joined, joined-part, joined-tab-length}
 use Rattle.run.proofs.Table.{tab-same}
 use Rattle.sttd.specs.Rule.{sttd}
-use Rattle.sttd.specs.Blocks.{blockwise, OfBlocks, BlockLaws, AnyBlocks, Fours}
+use Rattle.sttd.specs.Blocks.{blockwise, OfBlocks, AnyBlocks, Fours}
 use Rattle.sttd.proofs.Laws.{sttd-length, sttd-part}
 
 -- a stretch of whole blocks

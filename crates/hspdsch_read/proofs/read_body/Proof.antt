@@ -1,6 +1,5 @@
 -- `hspdsch_read::read_body` meets its contract: antenna 1's bits, then whether antenna 2 is what they give; where it is not, antenna 2's bits come first.
 -- Assumes nothing.
-use Prim.Native.Nat.{_≤_}
 use native.Mathlib.Omega.{arith}
 use denote.Ref.{now}
 use Rattle.run.proofs.Chain.{each-is}
