@@ -53,15 +53,23 @@ fn unfold(text: &[u8], to: &mut [u8]) -> usize
     n
 }
 
+fn map(line: &[u8], data: &[u8], antenna1: &mut [u8], antenna2: &mut [u8]) {
+    answer::verdict(hspdsch_map::map(number(line, 1), data, antenna1, antenna2));
+    answer::run(true, line, 1, antenna1);
+    answer::run(true, line, 0, antenna2);
+}
+
+fn read(line: &[u8], antenna1: &[u8], antenna2: &[u8], data: &mut [u8]) {
+    answer::verdict(hspdsch_read::read(number(line, 1), antenna1, antenna2, data));
+    answer::run(true, line, 0, data);
+}
+
 fn tell(call: usize, line: &[u8], first: &[u8], second: &mut [u8], third: &mut [u8]) {
-    let format = number(line, 1);
     if call == question::HSPDSCH_MAP {
-        answer::verdict(hspdsch_map::map(format, first, second, third));
-        answer::run(true, line, 1, second);
-    } else {
-        answer::verdict(hspdsch_read::read(format, first, second, third));
+        map(line, first, second, third);
+        return;
     }
-    answer::run(true, line, 0, third);
+    read(line, first, second, third);
 }
 
 pub(crate) fn lend(call: usize, line: &[u8]) {
