@@ -12,16 +12,12 @@ use Rattle.run.specs.declared.Verdict.{Verdict}
 use Rattle.run.specs.First.{firstBad, Every, atMost, agree}
 use Rattle.run.specs.Verdicts.{orElse, unless, each}
 use Rattle.run.proofs.Chain.{or-else-is, or-else-pass, or-else-refused, or-else-next, unless-done, unless-pass, each-is, each-pass, each-done}
-use Rattle.run.proofs.First.{first-le, none-first, no-diff, first-in-part, part-passes}
+use Rattle.run.proofs.First.{none-first, no-diff, first-in-part, part-passes}
 use Rattle.run.proofs.Lent.{part-width, part-at}
 use Rattle.sttd.specs.Rule.{barDigit}
 use Rattle.hspdsch.specs.Rule.{size, coded, secondOf}
 use Rattle.hspdsch.specs.Outcome.{flip, encodedOver, readBody}
 use Rattle.hspdsch.proofs.Laws.{coded-length, coded-part, coded-flip, size-whole, second-bits}
-
--- what a scan answers is no more than the run has
-pub found-within : (ok : ℕ → Bool) (n : ℕ) {i : ℕ} → i ≡ firstBad ok n → i ≤ n
-found-within ok n e = let l = first-le ok n in omega arith
 
 -- ---- one stretch
 

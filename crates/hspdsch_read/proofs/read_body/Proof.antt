@@ -2,9 +2,14 @@
 -- Assumes nothing.
 use native.Mathlib.Omega.{arith}
 use denote.Ref.{now}
+use lib.ListN.{length}
+use Rattle.run.specs.First.{atMost, agree}
 use Rattle.run.proofs.Chain.{each-is}
+use Rattle.run.proofs.First.{first-le}
+use Rattle.hspdsch.specs.Rule.{coded}
+use Rattle.hspdsch.specs.Outcome.{flip}
 use Rattle.hspdsch.proofs.Laws.{size-small, size-whole}
-use Rattle.hspdsch_read.proofs.Laws.{found-within, body-stops, body-agrees, body-differs}
+use Rattle.hspdsch_read.proofs.Laws.{body-stops, body-agrees, body-differs}
 use borrow.Author.Needs.{needs}
 use Rattle.hspdsch_read.proofs.read_body.Statement.{statement}
 use Rattle.hspdsch_read.proofs.read_body.Tie as tie
@@ -31,7 +36,8 @@ add-unless : tie.Need-add-unless
 add-unless c =
     let start = c .before .before .before .before .before .before .before in
     let small = size-small (start .args .format) (start .pre .0) in
-    omega (arith, start .pre .1, found-within _ _ (c .first-difference .ensures))
+    let one = now (start .args .antenna1) in
+    omega (arith, start .pre .1, c .first-difference .ensures, first-le (agree (coded flip (start .args .format) one) (now (start .args .antenna2))) (length one))
 
 unless-requires : tie.Need-unless-requires
 unless-requires c κs = search needs
@@ -49,7 +55,8 @@ add-unless-2 : tie.Need-add-unless-2
 add-unless-2 c =
     let start = c .before .before .before .before .before .before .before .before .before .before .before in
     let small = size-small (start .args .format) (start .pre .0) in
-    omega (arith, start .pre .1, start .pre .2, found-within _ _ (c .first-above2 .ensures))
+    let two = now (start .args .antenna2) in
+    omega (arith, start .pre .1, start .pre .2, c .first-above2 .ensures, first-le (atMost 1 two) (length two))
 
 unless-requires-2 : tie.Need-unless-requires-2
 unless-requires-2 c κs = search needs
