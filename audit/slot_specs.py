@@ -6,6 +6,7 @@ import re
 
 FORMATS, COMPRESSED, UPLINK, PILOTS, PICH, PCCPCH, STTD = (f"crates/{name}.antt" for name in (
     "dpch/specs/Formats", "dpch/specs/Compressed", "dpch/specs/Uplink", "dpch/specs/UplinkPilots", "pich/specs/Rule", "pccpch/specs/Rule", "sttd/specs/Rule"))
+HSPDSCH = "crates/hspdsch/specs/Rule.antt"
 # The tables of formats: the file, the table's name, the definition of its rows and that of the fields' order.
 DPCH, DPCCH = (FORMATS, "formats", "row", "widths"), (UPLINK, "dpcchFormats", "dpcchRow", "dpcchWidths")
 
@@ -108,4 +109,16 @@ def pccpch(tree):
 def block(tree):
     """What antenna 2 sends for a block b0 b1 b2 b3: for each place the entry, and whether it has a bar."""
     words = found(tree, STTD, r"^sttd bar \(b0 ∷ b1 ∷ b2 ∷ b3 ∷ rest\) = (.*) ∷ sttd bar rest$")[1].split(" ∷ ")
+    return [(int(word[-1]), word.startswith("bar ")) for word in words]
+
+
+def hspdsch(tree):
+    """The slots of the HS-PDSCH, whose only field is data."""
+    sizes = [int(word) for word in found(tree, HSPDSCH, r"^slotSizes = ((?:\d+ ∷ )+)\[\]$")[1].split(" ∷ ")[:-1]]
+    return [([("data", size)], size) for size in sizes]
+
+
+def figure(tree):
+    """What antenna 2 sends for a block of eight: for each place the digit, and whether it has a bar."""
+    words = found(tree, HSPDSCH, r"^figure8A = ((?:(?:bar|plain) \d ∷ )+)\[\]$")[1].split(" ∷ ")[:-1]
     return [(int(word[-1]), word.startswith("bar ")) for word in words]

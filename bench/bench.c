@@ -12,6 +12,7 @@ int main(int n_arguments, char **arguments) {
     bench_dpcch();
     bench_pich();
     bench_pccpch();
+    bench_hspdsch();
     bench_sttd();
     bench_aich();
     bench_sample();

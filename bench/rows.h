@@ -10,6 +10,7 @@ void bench_dpdch(void);
 void bench_dpcch(void);
 void bench_pich(void);
 void bench_pccpch(void);
+void bench_hspdsch(void);
 void bench_sttd(void);
 void bench_aich(void);
 void bench_sample(void);

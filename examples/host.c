@@ -140,6 +140,34 @@ static int compressed(void) {
     return 0;
 }
 
+/* A subframe of high-speed data in 16QAM on two antennas, read back, and with its last digit on the second damaged. */
+static int high_speed(void) {
+    enum { SUBFRAME = 1920 };
+    static uint8_t data[SUBFRAME], antenna1[SUBFRAME], antenna2[SUBFRAME], data_back[SUBFRAME];
+
+    for (size_t i = 0; i < SUBFRAME; i++) {
+        data[i] = (uint8_t)(i / 2 % 2);
+    }
+    uint64_t mapped = slt_hspdsch_map(1, data, SUBFRAME, antenna1, SUBFRAME, antenna2, SUBFRAME);
+    print_answer("slt_hspdsch_map", mapped);
+    if (SLT_NUMBER(mapped) != SLT_DONE) {
+        return 1;
+    }
+    print_digits("first block on antenna 1", antenna1, 8);
+    print_digits("first block on antenna 2", antenna2, 8);
+
+    uint64_t read = slt_hspdsch_read(1, antenna1, SUBFRAME, antenna2, SUBFRAME, data_back, SUBFRAME);
+    print_answer("slt_hspdsch_read", read);
+    if (SLT_NUMBER(read) != SLT_DONE || memcmp(data, data_back, SUBFRAME) != 0) {
+        return 1;
+    }
+
+    antenna2[SUBFRAME - 1] ^= 1;
+    print_answer("slt_hspdsch_read of a damaged second antenna",
+                 slt_hspdsch_read(1, antenna1, SUBFRAME, antenna2, SUBFRAME, data_back, SUBFRAME));
+    return 0;
+}
+
 /* An uplink control slot of format 2 from its fields, read back, and read as another slot; then ten digits of uplink data. */
 static int uplink(void) {
     const uint8_t tfci[2] = {0, 1}, fbi[1] = {1}, data[10] = {0, 1, 1, 0, 0, 1, 0, 1, 1, 1};
@@ -167,5 +195,5 @@ static int uplink(void) {
 }
 
 int main(void) {
-    return paging() || slot() || two_antennas() || compressed() || uplink();
+    return paging() || slot() || two_antennas() || compressed() || high_speed() || uplink();
 }

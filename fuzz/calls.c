@@ -137,6 +137,14 @@ static void pccpch_read(struct test *t) {
     t->got = slt_pccpch_read(digits(t, 0), n(t, 0), digits(t, 1), n(t, 1), digits(t, 2), n(t, 2));
 }
 
+static void hspdsch_map(struct test *t) {
+    t->got = slt_hspdsch_map(t->given[0], digits(t, 0), n(t, 0), digits(t, 1), n(t, 1), digits(t, 2), n(t, 2));
+}
+
+static void hspdsch_read(struct test *t) {
+    t->got = slt_hspdsch_read(t->given[0], digits(t, 0), n(t, 0), digits(t, 1), n(t, 1), digits(t, 2), n(t, 2));
+}
+
 static void aich_map(struct test *t) {
     t->got = slt_aich_map(values(t, 0), n(t, 0), values(t, 1), n(t, 1));
 }
@@ -194,6 +202,8 @@ const struct call calls[] = {
     {"slt_sttd_values", 0, "44", sttd_values},
     {"slt_pccpch_map", 0, "111", pccpch_map},
     {"slt_pccpch_read", 0, "111", pccpch_read},
+    {"slt_hspdsch_map", 1, "111", hspdsch_map},
+    {"slt_hspdsch_read", 1, "111", hspdsch_read},
     {"slt_aich_map", 0, "44", aich_map},
     {"slt_aich_read", 0, "44", aich_read},
     {"slt_aich_map_available", 1, "44", aich_map_available},

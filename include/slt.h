@@ -33,7 +33,7 @@ extern "C" {
 
 /* The numbers of a refusal. */
 #define SLT_DONE 0u
-#define SLT_REFUSED_FORMAT 1u  /* a format that the channel's own table lacks: DPCH above 16, DPDCH above 6, DPCCH above 3; of a compressed frame, a kind that it lacks */
+#define SLT_REFUSED_FORMAT 1u  /* a format that the channel's own table lacks: DPCH above 16, DPDCH above 6, DPCCH above 3, HS-PDSCH above 1; of a compressed frame, a kind that it lacks */
 #define SLT_REFUSED_SLOT 2u    /* slot number above 14 */
 #define SLT_REFUSED_LENGTH 3u  /* a lent run has the wrong length; the place says which run */
 #define SLT_REFUSED_DIGIT 4u   /* digit not allowed */
@@ -41,7 +41,7 @@ extern "C" {
 #define SLT_REFUSED_TFCI 6u    /* TFCI digits mixed, some bits and some DTX; no call of the uplink gives it */
 #define SLT_REFUSED_PILOT 7u   /* pilot differs from the table */
 #define SLT_REFUSED_NP 8u      /* Np not 18, 36, 72, 144 */
-#define SLT_REFUSED_FRAME 9u   /* PICH or P-CCPCH frame, second stream of a DPCH slot, or missing slot of a compressed frame, that no fields give */
+#define SLT_REFUSED_FRAME 9u   /* PICH or P-CCPCH frame, second stream of a DPCH slot or HS-PDSCH subframe, or missing slot of a compressed frame, that no fields give */
 #define SLT_REFUSED_VALUES 10u /* AICH values that no indicators give */
 #define SLT_REFUSED_RANGE 11u  /* a number outside its range */
 #define SLT_REFUSED_GAINS 12u  /* both gains zero */
@@ -144,6 +144,13 @@ uint64_t slt_pccpch_map(const uint8_t *data, size_t n_data, uint8_t *antenna1, s
                         size_t n_antenna2);
 uint64_t slt_pccpch_read(const uint8_t *antenna1, size_t n_antenna1, const uint8_t *antenna2, size_t n_antenna2, uint8_t *data,
                          size_t n_data);
+
+/* HS-PDSCH (TS 25.211, 5.3.3.13): formats 0, QPSK, and 1, 16QAM; data, 0 or 1, and a subframe of three slots for each antenna, 960 digits
+ * each in format 0 and 1920 in format 1. In reading, antenna 2's places start at that length. */
+uint64_t slt_hspdsch_map(size_t format, const uint8_t *data, size_t n_data, uint8_t *antenna1, size_t n_antenna1, uint8_t *antenna2,
+                         size_t n_antenna2);
+uint64_t slt_hspdsch_read(size_t format, const uint8_t *antenna1, size_t n_antenna1, const uint8_t *antenna2, size_t n_antenna2,
+                          uint8_t *data, size_t n_data);
 
 /* AICH (TS 25.211, 5.3.3.7): 16 indicators -1, 0, +1 and 32 values. */
 uint64_t slt_aich_map(const int32_t *indicators, size_t n_indicators, int32_t *values, size_t n_values);

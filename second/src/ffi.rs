@@ -307,6 +307,31 @@ pub fn pccpch_read(antenna1: &mut Lent<u8>, antenna2: &mut Lent<u8>, data: &mut 
     })
 }
 
+// HS-PDSCH
+
+unsafe extern "C" {
+    fn slt_hspdsch_map(
+        format: usize, data: *const u8, n_data: usize, antenna1: *mut u8, n1: usize, antenna2: *mut u8, n2: usize,
+    ) -> u64;
+    fn slt_hspdsch_read(
+        format: usize, antenna1: *const u8, n1: usize, antenna2: *const u8, n2: usize, data: *mut u8, n_data: usize,
+    ) -> u64;
+}
+
+pub fn hspdsch_map(format: usize, data: &mut Lent<u8>, antenna1: &mut Lent<u8>, antenna2: &mut Lent<u8>) -> Answer {
+    let (n_data, n1, n2) = (data.len(), antenna1.len(), antenna2.len());
+    Answer::unpack(unsafe {
+        slt_hspdsch_map(format, data.pointer(), n_data, antenna1.pointer(), n1, antenna2.pointer(), n2)
+    })
+}
+
+pub fn hspdsch_read(format: usize, antenna1: &mut Lent<u8>, antenna2: &mut Lent<u8>, data: &mut Lent<u8>) -> Answer {
+    let (n1, n2, n_data) = (antenna1.len(), antenna2.len(), data.len());
+    Answer::unpack(unsafe {
+        slt_hspdsch_read(format, antenna1.pointer(), n1, antenna2.pointer(), n2, data.pointer(), n_data)
+    })
+}
+
 // AICH
 
 unsafe extern "C" {

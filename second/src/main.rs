@@ -35,6 +35,7 @@ const CHANNELS: &[Channel] = &[
     ("dpcch", compare::dpcch::all),
     ("sttd", compare::sttd::all),
     ("pccpch", compare::pccpch::all),
+    ("hspdsch", compare::hspdsch::all),
     ("aich", compare::aich::all),
     ("aich_available", compare::aich_available::all),
     ("combiner", compare::combiner::all),

@@ -6,6 +6,7 @@
 // numbers, `slip` a slip that has been seen, `done` any other call that is done.
 mod answer;
 mod digits;
+mod hspdsch;
 mod jobs;
 mod question;
 mod samples;
@@ -21,6 +22,7 @@ fn ask(call: usize, line: &[u8]) {
         question::AICH_MAP..=question::STTD_VALUES => values::lend(call, line),
         question::AICH_COMBINE => values::lend_results(line),
         question::SAMPLE => samples::take(line),
+        question::HSPDSCH_MAP..=question::HSPDSCH_READ => hspdsch::lend(call, line),
         _ => answer::text(b" -> no such call"),
     }
 }

@@ -34,7 +34,7 @@ pilotRefused = 7
 abbrev pub npRefused : ℕ
 npRefused = 8
 
--- 9: PICH or P-CCPCH frame, second stream of a DPCH slot, or missing slot of a compressed frame, that no fields give
+-- 9: PICH or P-CCPCH frame, second stream of a DPCH slot or HS-PDSCH subframe, or missing slot of a compressed frame, that no fields give
 abbrev pub frameRefused : ℕ
 frameRefused = 9
 

@@ -11,6 +11,7 @@ pub mod dpcch;
 pub mod dpch;
 pub mod dpdch;
 pub mod frame;
+pub mod hspdsch;
 pub mod pccpch;
 pub mod pich;
 pub mod sample;

@@ -12,6 +12,7 @@ pub mod dpcch;
 pub mod dpch;
 pub mod dpdch;
 pub mod frame;
+pub mod hspdsch;
 pub mod job;
 pub mod pccpch;
 pub mod pich;

@@ -13,6 +13,7 @@ mod antennas;
 mod case;
 mod compressed;
 mod frames;
+mod hspdsch;
 mod jobs;
 mod paging;
 mod runs;
@@ -27,7 +28,7 @@ fn main() {
         Some(other) => panic!("{other} is not --questions"),
     };
     let dedicated = [slots::all(), frames::all(), compressed::all(), uplink::all()];
-    let others = [antennas::all(), paging::all(), access::all(), samples::all(), jobs::all()];
+    let others = [antennas::all(), paging::all(), access::all(), samples::all(), jobs::all(), hspdsch::all()];
     for case in [dedicated.concat(), others.concat()].concat() {
         if questions_only {
             println!("{}", case.question);

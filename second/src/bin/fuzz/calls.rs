@@ -5,7 +5,7 @@ use crate::draw::Draw;
 use crate::lent::{HUGE, Room};
 use second::answer::{Answer, Refusal};
 use second::rules::sample::{Setting, VALUE_LIMIT, sample};
-use second::rules::{aich, combiner, pccpch, pich, sttd};
+use second::rules::{aich, combiner, hspdsch, pccpch, pich, sttd};
 
 const NPS: [usize; 4] = [18, 36, 72, 144];
 
@@ -98,6 +98,34 @@ pub fn pccpch_read(draw: &mut Draw) -> Case {
     let outcome = pccpch::read(&antenna1.run, &antenna2.run, data.length);
     let after = outcome.as_deref().ok();
     Case::of(&[]).held(&antenna1).held(&antenna2).room(&data, after).answers(Answer::of(&outcome))
+}
+
+// HS-PDSCH
+
+pub fn hspdsch_map(draw: &mut Draw) -> Case {
+    let good = draw.random.below(hspdsch::FORMATS);
+    let digits = draw.random.digits(hspdsch::size(good), 2);
+    let digits = draw.digits(digits);
+    let format = draw.number(good);
+    let data = draw.lend(digits);
+    let (antenna1, antenna2) = (draw.room(hspdsch::size(good)), draw.room(hspdsch::size(good)));
+    let outcome = hspdsch::map(format, &data.run, antenna1.length, antenna2.length);
+    let (after1, after2) = (outcome.as_ref().ok().map(|both| &both.0[..]), outcome.as_ref().ok().map(|both| &both.1[..]));
+    Case::of(&[format]).held(&data).room(&antenna1, after1).room(&antenna2, after2).answers(Answer::of(&outcome))
+}
+
+pub fn hspdsch_read(draw: &mut Draw) -> Case {
+    let good = draw.random.below(hspdsch::FORMATS);
+    let n = hspdsch::size(good);
+    let digits = draw.random.digits(n, 2);
+    let (sent1, sent2) = hspdsch::map(good, &digits, n, n).expect("good data");
+    let (sent1, sent2) = (draw.digits(sent1), draw.digits(sent2));
+    let format = draw.number(good);
+    let (antenna1, antenna2) = (draw.lend(sent1), draw.lend(sent2));
+    let data = draw.room(n);
+    let outcome = hspdsch::read(format, &antenna1.run, &antenna2.run, data.length);
+    let after = outcome.as_deref().ok();
+    Case::of(&[format]).held(&antenna1).held(&antenna2).room(&data, after).answers(Answer::of(&outcome))
 }
 
 // AICH

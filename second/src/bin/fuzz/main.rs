@@ -28,7 +28,7 @@ use std::process::ExitCode;
 type Call = (&'static [u16], fn(&mut Draw) -> Case);
 
 /// In the order of `include/slt.h`, which is that of the table in `fuzz/calls.c`.
-const CALLS: [Call; 31] = [
+const CALLS: [Call; 33] = [
     (&[0, 8, 11], calls::pich_q),
     (&[0, 3, 4, 8], calls::pich_map),
     (&[0, 3, 4, 8, 9], calls::pich_read),
@@ -52,6 +52,8 @@ const CALLS: [Call; 31] = [
     (&[0, 3, 11], calls::sttd_values),
     (&[0, 3, 4], calls::pccpch_map),
     (&[0, 3, 4, 9], calls::pccpch_read),
+    (&[0, 1, 3, 4], calls::hspdsch_map),
+    (&[0, 1, 3, 4, 9], calls::hspdsch_read),
     (&[0, 3, 11], calls::aich_map),
     (&[0, 3, 10], calls::aich_read),
     (&[0, 3, 11, 26], calls::aich_map_available),
@@ -87,7 +89,7 @@ fn main() -> ExitCode {
 fn write_all(seed: u64) -> io::Result<()> {
     let mut out = BufWriter::with_capacity(1 << 16, io::stdout().lock());
     write_head(&mut out, [seed, 0, CASES])?;
-    let mut seen: [BTreeSet<u16>; CALLS.len()] = Default::default();
+    let mut seen: [BTreeSet<u16>; CALLS.len()] = std::array::from_fn(|_| BTreeSet::new());
     for case in 0..CASES {
         seen[call_of(case)].insert(write_case(&mut out, seed, case)?);
     }
