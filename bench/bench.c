@@ -12,6 +12,7 @@ int main(int n_arguments, char **arguments) {
     bench_pccpch();
     bench_sttd();
     bench_aich();
+    bench_desk();
     bench_sample();
     if (n_arguments == 4) bench_slotline(arguments[1], arguments[2], arguments[3]);
     return 0;

@@ -10,6 +10,7 @@ void bench_pich(void);
 void bench_pccpch(void);
 void bench_sttd(void);
 void bench_aich(void);
+void bench_desk(void);
 void bench_sample(void);
 
 /* The rows of the program, given the paths of slotline, of the tight and of the plain C program. */

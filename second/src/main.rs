@@ -35,6 +35,7 @@ const CHANNELS: &[Channel] = &[
     ("pccpch", compare::pccpch::all),
     ("aich", compare::aich::all),
     ("aich_available", compare::aich_available::all),
+    ("desk", compare::desk::all),
     ("combiner", compare::combiner::all),
     ("sample", compare::sample::all),
 ];

@@ -63,7 +63,13 @@ pub(crate) const SAMPLE: usize = 24;
 
 pub(crate) const JOB: usize = 25;
 
-pub(crate) const NONE: usize = 26;
+pub(crate) const DESK_SERVE: usize = 26;
+
+pub(crate) const DESK_TO_AICH: usize = 27;
+
+pub(crate) const DESK_TO_MESSAGE: usize = 28;
+
+pub(crate) const NONE: usize = 29;
 
 // How many digits and how many whole numbers a run has at most.
 pub(crate) const DIGITS: usize = 300;
@@ -122,7 +128,7 @@ pub(crate) fn call(line: &[u8]) -> usize {
     let mut k = 0;
     while k < NONE {
         let name = piece(
-            b" slot map , frame map , P-CCPCH read , PICH map , PICH read , DPDCH map , DPDCH read , DPDCH frame map , DPDCH frame read , DPCCH map , DPCCH frame map , STTD digits , slot read , P-CCPCH map , DPCCH read , frame read , DPCCH frame read , PICH q , AICH map , AICH read , AICH available map , AICH available read , STTD values , AICH combine , sample , job ",
+            b" slot map , frame map , P-CCPCH read , PICH map , PICH read , DPDCH map , DPDCH read , DPDCH frame map , DPDCH frame read , DPCCH map , DPCCH frame map , STTD digits , slot read , P-CCPCH map , DPCCH read , frame read , DPCCH frame read , PICH q , AICH map , AICH read , AICH available map , AICH available read , STTD values , AICH combine , sample , job , desk serve , desk to AICH , desk to message ",
             b',',
             k,
         );

@@ -5,6 +5,7 @@
 pub mod aich;
 pub mod aich_available;
 pub mod combiner;
+pub mod desk;
 pub mod dpcch;
 pub mod dpch;
 pub mod dpdch;

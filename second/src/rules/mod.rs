@@ -6,6 +6,7 @@
 
 pub mod aich;
 pub mod combiner;
+pub mod desk;
 pub mod dpcch;
 pub mod dpch;
 pub mod dpdch;

@@ -11,6 +11,7 @@
 mod access;
 mod antennas;
 mod case;
+mod desk;
 mod frames;
 mod jobs;
 mod paging;
@@ -26,7 +27,7 @@ fn main() {
         Some(other) => panic!("{other} is not --questions"),
     };
     let dedicated = [slots::all(), frames::all(), uplink::all()];
-    let others = [antennas::all(), paging::all(), access::all(), samples::all(), jobs::all()];
+    let others = [antennas::all(), paging::all(), access::all(), desk::all(), samples::all(), jobs::all()];
     for case in [dedicated.concat(), others.concat()].concat() {
         if questions_only {
             println!("{}", case.question);
