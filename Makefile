@@ -5,6 +5,21 @@ SANITIZE = -fsanitize=address,undefined -fno-sanitize-recover=all
 LIB = target/staticlib/libslt.a
 SLOTLINE = target/bin/slotline
 SECOND = target/second/release
+# How the program is started, and what compiles and runs the comparison, which links the archive.
+PROGRAM = $(SLOTLINE)
+COMPARE = cargo run
+
+# The prover compiles for x86-64. On another processor the C and the comparison are compiled for x86-64 as well, and all of it runs under an emulator, where the
+# address sanitizer does not find the addresses that it takes.
+ifneq ($(shell uname -m),x86_64)
+CC = x86_64-linux-gnu-gcc
+AR = x86_64-linux-gnu-ar
+EMULATOR = qemu-x86_64-static
+SANITIZE = -fsanitize=undefined -fno-sanitize-recover=all -static-libubsan
+PROGRAM = target/emulated/slotline
+COMPARE = RUSTC=/usr/bin/rustc CARGO_TARGET_X86_64_UNKNOWN_LINUX_GNU_LINKER=$(CC) CARGO_TARGET_X86_64_UNKNOWN_LINUX_GNU_RUNNER=$(EMULATOR) \
+    /usr/bin/cargo run --target x86_64-unknown-linux-gnu
+endif
 
 .PHONY: test tools-run tools-test steps lib slotline run fmt audit pictures judges second jobs cases host fuzz install package bench bench-programs bench-table clean
 
@@ -27,21 +42,26 @@ fmt:
 
 # Proves the C calls and what they stand on, and compiles them: an object for each channel's, in one archive. One rt at a time works in target/.
 ONE_RT = mkdir -p target && flock target/one-rt
-C_CALLS = slt_slot slt_frame slt_dpdch slt_dpcch slt_pich slt_pccpch slt_sttd slt_aich slt_desk slt_combiner slt_sample
-BELOW_C = packed slot_read frame_map frame_read dpdch dpcch_read dpcch_frame_map dpcch_frame_read pich_map pich_read pccpch_read sttd sttd_values aich desk combiner sample
+C_CALLS = slt_slot slt_antenna slt_frame slt_dpdch slt_dpcch slt_pich slt_pccpch slt_sttd slt_aich slt_desk slt_combiner slt_sample
+BELOW_C = packed slot_read antenna_map antenna_read frame_map frame_read dpdch dpcch_read dpcch_frame_map dpcch_frame_read pich_map pich_read pccpch_read sttd sttd_values aich desk combiner sample
 lib:
 	$(ONE_RT) rt check $(BELOW_C)
 	for name in $(C_CALLS); do $(ONE_RT) rt staticlib $$name || exit 1; done
 	rm -f $(LIB)
-	cd $(dir $(LIB)) && for name in $(C_CALLS); do ar x lib$$name.a || exit 1; done && ar crs $(notdir $(LIB)) $(addsuffix .o,$(C_CALLS))
+	cd $(dir $(LIB)) && for name in $(C_CALLS); do $(AR) x lib$$name.a || exit 1; done && $(AR) crs $(notdir $(LIB)) $(addsuffix .o,$(C_CALLS))
 
 # Proves the program that reads a job file and what it stands on, and compiles it.
 slotline: | tools-run
 	$(ONE_RT) rt check slotline
+ifdef EMULATOR
+	mkdir -p $(dir $(PROGRAM))
+	printf '#!/bin/sh\nexec %s "%s" "$$@"\n' $(EMULATOR) $(abspath $(SLOTLINE)) > $(PROGRAM)
+	chmod +x $(PROGRAM)
+endif
 
 # The program on an example job. On a file of one's own: target/bin/slotline < FILE
 run: slotline
-	$(SLOTLINE) < examples/three_kinds.slt
+	$(PROGRAM) < examples/three_kinds.slt
 
 # The pages, the header, the comments and the pictures against the source; then the audit itself, tried on wrong words that it must find.
 audit:
@@ -59,15 +79,15 @@ judges:
 
 # Its comparison with the archive.
 second: lib judges
-	cd second && cargo run --quiet --release --offline
+	cd second && $(COMPARE) --quiet --release --offline
 
 # The program on many job files and on the examples, against the text of the second program's rules; then the generator
 # that docs/JOBFILE.md shows, whose job the rules print as well, and the mistakes in it that the page lists.
 jobs: judges slotline
-	$(SECOND)/jobs $(abspath $(SLOTLINE)) examples
-	sh examples/try_generator.sh $(abspath $(SLOTLINE)) target/generator
+	$(SECOND)/jobs $(abspath $(PROGRAM)) examples
+	sh examples/try_generator.sh $(abspath $(PROGRAM)) target/generator
 	$(SECOND)/jobs --print < target/generator/job.slt | cmp - target/generator/expected
-	python3 examples/try_mistakes.py $(SLOTLINE)
+	python3 examples/try_mistakes.py $(PROGRAM)
 	python3 examples/try_mistakes.py $(SECOND)/jobs --print
 
 # The questions that the program cases is given and the text that it must print, printed anew by the second program; rt ci runs cases itself on these
@@ -80,7 +100,7 @@ cases: judges
 host: lib
 	mkdir -p target/host
 	$(CC) $(CFLAGS) $(SANITIZE) -Iinclude examples/host.c $(LIB) -o target/host/host
-	target/host/host > target/host/stdout
+	$(EMULATOR) target/host/host > target/host/stdout
 	cmp target/host/stdout examples/host.stdout
 
 # Cases drawn at random: the C calls under the sanitizers, in memory where a stray access shows, and the program on files.
@@ -90,8 +110,8 @@ CASE =
 fuzz: lib judges slotline
 	mkdir -p target/fuzz
 	$(CC) $(CFLAGS) $(SANITIZE) -Iinclude fuzz/*.c $(LIB) -o target/fuzz/fuzz
-	$(SECOND)/fuzz $(SEED) $(CASE) | target/fuzz/fuzz
-	test -n "$(CASE)" || $(SECOND)/jobs --fuzz $(SEED) $(SLOTLINE)
+	$(SECOND)/fuzz $(SEED) $(CASE) | $(EMULATOR) target/fuzz/fuzz
+	test -n "$(CASE)" || $(SECOND)/jobs --fuzz $(SEED) $(PROGRAM)
 
 # The archive, its header and its pkg-config file, the program and its man page. PREFIX is where they will be used, and
 # DESTDIR stands before it where they are only put together.
@@ -111,7 +131,7 @@ INSTALLED = $(abspath target/install)
 package: lib slotline
 	rm -rf target/install target/outside
 	$(MAKE) --no-print-directory -o lib -o slotline install DESTDIR= PREFIX=$(INSTALLED)
-	sh packaging/try.sh $(INSTALLED) target/outside
+	CC=$(CC) EMULATOR=$(EMULATOR) sh packaging/try.sh $(INSTALLED) target/outside
 
 # Ratios to plain C, to tight C and to memcpy, in one run. It fails where the library and the C beside it answer or write anything that is not the
 # same; nothing fails by its numbers. The program slotline is timed against programs of its own.
@@ -120,6 +140,9 @@ BENCH_CC = $(CC) -std=c11 -O3 -Wall -Wextra -Werror -Iinclude -Ibench
 YARDSTICKS = $(filter-out %_slotline.c,$(wildcard bench/plain_*.c bench/tight_*.c))
 TIMED = $(filter-out bench/plain_%.c bench/tight_%.c,$(wildcard bench/*.c))
 bench-programs: lib slotline
+ifdef EMULATOR
+	@echo "bench: times under an emulator say nothing: this needs an x86-64 machine" >&2; exit 1
+endif
 	mkdir -p $(BENCH)
 	for whose in plain tight; do $(BENCH_CC) bench/$${whose}_slotline.c $(YARDSTICKS) -o $(BENCH)/$${whose}_slotline || exit 1; done
 	$(BENCH_CC) $(TIMED) $(YARDSTICKS) $(LIB) -lm -o $(BENCH)/bench

@@ -1,4 +1,6 @@
 """docs/crates.svg: the crates of crates.txt, floor by floor, with an arrow to each that a crate uses itself."""
+import math
+
 import floors
 import svg
 
@@ -7,10 +9,11 @@ HIGH, BOX, LEFT, TOP, GAP = 66, 24, 46, 70, 12
 
 
 def hues(names):
-    """A hue for each channel of more than one crate, as far from the one before as the circle allows."""
+    """A hue of its own for each channel of more than one crate: steps of nearly half the circle, which come to each of its places once."""
     channels = [floors.channel(name) for name in names]
     shared = [name for name in dict.fromkeys(channels) if channels.count(name) > 1]
-    return {name: at / len(shared) if at % 2 == 0 else (at / len(shared) + 0.5) for at, name in enumerate(shared)}
+    step = next((n for n in range(len(shared) // 2, 1, -1) if math.gcd(n, len(shared)) == 1), 1)
+    return {name: at * step % len(shared) / len(shared) for at, name in enumerate(shared)}
 
 
 def width(node):

@@ -5,6 +5,7 @@
 /* With three paths, of slotline and of its two yardsticks, the program is timed as well. */
 int main(int n_arguments, char **arguments) {
     bench_dpch();
+    bench_antenna();
     bench_frame();
     bench_dpdch();
     bench_dpcch();

@@ -3,6 +3,7 @@
 #define ROWS_H
 
 void bench_dpch(void);
+void bench_antenna(void);
 void bench_frame(void);
 void bench_dpdch(void);
 void bench_dpcch(void);

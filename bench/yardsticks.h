@@ -16,6 +16,11 @@
                               size_t n_tfci, uint8_t *out, size_t n_out);                                                       \
     uint64_t whose##_slot_read(size_t format, size_t slot, const uint8_t *run, size_t n_run, uint8_t *data, size_t n_data,      \
                                uint8_t *tfci, size_t n_tfci);                                                                   \
+    uint64_t whose##_slot_map_antenna(size_t format, size_t slot, size_t antenna, size_t tpc, const uint8_t *data,              \
+                                      size_t n_data, const uint8_t *tfci, size_t n_tfci, uint8_t *out, size_t n_out);           \
+    uint64_t whose##_slot_read_antennas(size_t format, size_t slot, const uint8_t *first, size_t n_first,                       \
+                                        const uint8_t *second, size_t n_second, uint8_t *data, size_t n_data,                   \
+                                        uint8_t *tfci, size_t n_tfci);                                                          \
     uint64_t whose##_frame_map(size_t format, const uint8_t *data, size_t n_data, const uint8_t *tfci, size_t n_tfci,           \
                                uint8_t *out, size_t n_out, const uint8_t *commands, size_t n_commands);                         \
     uint64_t whose##_frame_read(size_t format, const uint8_t *frame, size_t n_frame, uint8_t *data, size_t n_data,              \

@@ -75,6 +75,34 @@ static int slot(void) {
     return 0;
 }
 
+/* The same fields on two antennas, read back from both streams, and with one digit of the second damaged. */
+static int two_antennas(void) {
+    const uint8_t data[2] = {1, 0}, tfci[2] = {0, 1};
+    uint8_t streams[2][10], data_back[2], tfci_back[2];
+
+    for (size_t antenna = 0; antenna < 2; antenna++) {
+        uint64_t mapped = slt_slot_map_antenna(1, 1, antenna, 1, data, sizeof data, tfci, sizeof tfci, streams[antenna], 10);
+        print_answer("slt_slot_map_antenna", mapped);
+        if (SLT_NUMBER(mapped) != SLT_DONE) {
+            return 1;
+        }
+        print_digits(antenna == 0 ? "antenna 1" : "antenna 2", streams[antenna], 10);
+    }
+
+    uint64_t read = slt_slot_read_antennas(1, 1, streams[0], 10, streams[1], 10, data_back, sizeof data_back, tfci_back,
+                                           sizeof tfci_back);
+    print_answer("slt_slot_read_antennas", read);
+    if (SLT_NUMBER(read) != SLT_DONE || memcmp(data, data_back, sizeof data) != 0 || memcmp(tfci, tfci_back, sizeof tfci) != 0) {
+        return 1;
+    }
+
+    streams[1][3] = 1;
+    print_answer("slt_slot_read_antennas of a damaged second stream",
+                 slt_slot_read_antennas(1, 1, streams[0], 10, streams[1], 10, data_back, sizeof data_back, tfci_back,
+                                        sizeof tfci_back));
+    return 0;
+}
+
 /* An uplink control slot of format 2 from its fields, read back, and read as another slot; then ten digits of uplink data. */
 static int uplink(void) {
     const uint8_t tfci[2] = {0, 1}, fbi[1] = {1}, data[10] = {0, 1, 1, 0, 0, 1, 0, 1, 1, 1};
@@ -124,5 +152,5 @@ static int random_access(void) {
 }
 
 int main(void) {
-    return paging() || slot() || uplink() || random_access();
+    return paging() || slot() || two_antennas() || uplink() || random_access();
 }

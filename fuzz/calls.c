@@ -56,6 +56,16 @@ static void slot_read(struct test *t) {
     t->got = slt_slot_read(t->given[0], t->given[1], digits(t, 0), n(t, 0), digits(t, 1), n(t, 1), digits(t, 2), n(t, 2));
 }
 
+static void slot_map_antenna(struct test *t) {
+    t->got = slt_slot_map_antenna(t->given[0], t->given[1], t->given[2], t->given[3], digits(t, 0), n(t, 0), digits(t, 1), n(t, 1),
+                                  digits(t, 2), n(t, 2));
+}
+
+static void slot_read_antennas(struct test *t) {
+    t->got = slt_slot_read_antennas(t->given[0], t->given[1], digits(t, 0), n(t, 0), digits(t, 1), n(t, 1), digits(t, 2), n(t, 2),
+                                    digits(t, 3), n(t, 3));
+}
+
 static void frame_map(struct test *t) {
     t->got = slt_frame_map(t->given[0], digits(t, 0), n(t, 0), digits(t, 1), n(t, 1), digits(t, 2), n(t, 2), digits(t, 3),
                            n(t, 3));
@@ -171,6 +181,8 @@ const struct call calls[] = {
     {"slt_pich_read", 1, "11", pich_read},
     {"slt_slot_map", 3, "111", slot_map},
     {"slt_slot_read", 2, "111", slot_read},
+    {"slt_slot_map_antenna", 4, "111", slot_map_antenna},
+    {"slt_slot_read_antennas", 2, "1111", slot_read_antennas},
     {"slt_frame_map", 1, "1111", frame_map},
     {"slt_frame_read", 1, "1111", frame_read},
     {"slt_dpdch_map", 1, "11", dpdch_map},

@@ -41,7 +41,7 @@ extern "C" {
 #define SLT_REFUSED_TFCI 6u    /* TFCI digits mixed, some bits and some DTX; no call of the uplink gives it */
 #define SLT_REFUSED_PILOT 7u   /* pilot differs from the table */
 #define SLT_REFUSED_NP 8u      /* Np not 18, 36, 72, 144 */
-#define SLT_REFUSED_FRAME 9u   /* PICH or P-CCPCH frame that no fields give */
+#define SLT_REFUSED_FRAME 9u   /* PICH or P-CCPCH frame, or second stream of a DPCH slot, that no fields give */
 #define SLT_REFUSED_VALUES 10u /* AICH values that no indicators give */
 #define SLT_REFUSED_RANGE 11u  /* a number outside its range */
 #define SLT_REFUSED_GAINS 12u  /* both gains zero */
@@ -78,6 +78,16 @@ uint64_t slt_slot_map(size_t format, size_t slot, size_t tpc, const uint8_t *dat
 /* Data and TFCI of a slot, and its TPC command as the value. Order of runs for refusal 3: slot, data, TFCI. */
 uint64_t slt_slot_read(size_t format, size_t slot, const uint8_t *run, size_t n_run, uint8_t *data, size_t n_data,
                        uint8_t *tfci, size_t n_tfci);
+
+/* The same on two antennas (TS 25.211, 5.3.2.1), one stream a call: antenna 0 is antenna 1, whose slot is that of slt_slot_map, and 1 is antenna 2; any
+ * other is refused with 11. Order of runs for refusal 3: data, TFCI, output. */
+uint64_t slt_slot_map_antenna(size_t format, size_t slot, size_t antenna, size_t tpc, const uint8_t *data, size_t n_data,
+                              const uint8_t *tfci, size_t n_tfci, uint8_t *out, size_t n_out);
+
+/* Data and TFCI of a slot that both antennas sent, and its TPC command as the value. Places of the second stream count from the slot length.
+ * Order of runs for refusal 3: first stream, second stream, data, TFCI. */
+uint64_t slt_slot_read_antennas(size_t format, size_t slot, const uint8_t *first, size_t n_first, const uint8_t *second,
+                                size_t n_second, uint8_t *data, size_t n_data, uint8_t *tfci, size_t n_tfci);
 
 /* Downlink DPCH frames: slots 0 to 14 of one format. Data, TFCI and output are fifteen times a slot's; commands are 15 bytes, 0 or 1.
  * Order of runs for refusal 3: map data, TFCI, output, commands; read frame, data, TFCI, commands. */

@@ -3,6 +3,8 @@
 # program on an example, and looks at the man page.
 #
 #     packaging/try.sh PREFIX WORK     WORK is a directory for what is made on the way
+#
+# CC is the compiler; EMULATOR runs what it compiles, where the machine itself does not.
 set -eu
 prefix=$1
 work=$2
@@ -21,10 +23,10 @@ PKG_CONFIG_PATH=$prefix/lib/pkgconfig
 export PKG_CONFIG_PATH
 flags=$(pkg-config --cflags --libs slt)
 ${CC:-cc} main.c $flags -o main
-./main > printed
+${EMULATOR-} ./main > printed
 cmp printed "$examples/outside/stdout"
 
-"$prefix/bin/slotline" < "$examples/three_kinds.slt" | cmp - "$examples/three_kinds.txt"
+${EMULATOR-} "$prefix/bin/slotline" < "$examples/three_kinds.slt" | cmp - "$examples/three_kinds.txt"
 
 # A machine without groff has no man pages to show.
 page=$prefix/share/man/man1/slotline.1

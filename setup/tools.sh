@@ -7,9 +7,11 @@ set -eu
 for_test=${1:?run or test}
 test "$for_test" = test || for_test=
 
-# The one list: a tool, the package of Debian that has it, and which command needs it (test needs all that run needs). rt itself uses some of them.
+# The one list: a tool, the package of Debian that has it, and which command needs it (test needs all that run needs). rt itself uses some of them. What has the
+# mark 'else' is for processors other than x86-64, for which the prover compiles: there it is what compiles and runs programs of x86-64.
 tools() {
-    while read -r tool package needed; do
+    while read -r tool package needed where; do
+        if test "$where" = else && test "$(uname -m)" = x86_64; then continue; fi
         if test "$needed" = run || test -n "$for_test"; then "$1" "$tool" "$package"; fi
     done << 'LIST'
 make        make        run
@@ -23,6 +25,11 @@ ar          binutils    test
 python3     python3     test
 pkg-config  pkg-config  test
 cargo       cargo       test
+qemu-x86_64-static           qemu-user-static           run   else
+/lib64/ld-linux-x86-64.so.2  libc6:amd64                run   else
+x86_64-linux-gnu-gcc         gcc-x86-64-linux-gnu       test  else
+x86_64-linux-gnu-ar          binutils-x86-64-linux-gnu  test  else
+rust-for-x86-64              libstd-rust-web-dev:amd64  test  else
 LIST
 }
 
@@ -34,8 +41,17 @@ cargo_is_new() {
     esac
 }
 
+# Debian's own compiler of Rust, with its library for x86-64; another one that stands before it on the path may have no such library.
+rust_for_x86_64() {
+    test -x /usr/bin/cargo && root=$(/usr/bin/rustc --print sysroot 2> /dev/null) && test -d "$root/lib/rustlib/x86_64-unknown-linux-gnu/lib"
+}
+
 has() {
-    command -v "$1" > /dev/null 2>&1 && { test "$1" != cargo || cargo_is_new; }
+    case $1 in
+        cargo) command -v cargo > /dev/null 2>&1 && cargo_is_new ;;
+        rust-for-x86-64) rust_for_x86_64 ;;
+        *) command -v "$1" > /dev/null 2>&1 ;;
+    esac
 }
 
 missing= packages=
@@ -57,9 +73,18 @@ named() {
         case $package in
             cargo) if apt-cache show cargo-web > /dev/null 2>&1; then echo cargo-web; else echo cargo; fi ;;
             gcc) echo gcc libc6-dev ;;
+            gcc-x86-64-linux-gnu) echo gcc-x86-64-linux-gnu libc6-dev-amd64-cross ;;
+            libstd-rust-web-dev:amd64) if apt-cache show cargo-web > /dev/null 2>&1; then echo rustc-web cargo-web "$package"; else echo rustc cargo libstd-rust-dev:amd64; fi ;;
             *) echo "$package" ;;
         esac
     done
+}
+
+# Packages for x86-64 are found once dpkg knows that it may look for them.
+foreign() {
+    case $packages in
+        *:amd64*) echo "$1 dpkg --add-architecture amd64 && $1 apt-get update && " ;;
+    esac
 }
 
 if ! command -v apt-get > /dev/null 2>&1; then
@@ -67,11 +92,14 @@ if ! command -v apt-get > /dev/null 2>&1; then
     exit 1
 fi
 if test "$(id -u)" != 0; then
-    echo "setup: missing:$missing. This installs them: sudo apt-get install -y" $(named) >&2
+    echo "setup: missing:$missing. This installs them: $(foreign sudo)sudo apt-get install -y" $(named) >&2
     exit 1
 fi
 echo "setup: missing:$missing. Installing." >&2
 export DEBIAN_FRONTEND=noninteractive
+case $packages in
+    *:amd64*) dpkg --add-architecture amd64 ;;
+esac
 apt-get update -qq >&2
 apt-get install -y -qq $(named) >&2
 

@@ -64,6 +64,43 @@ pub fn slot_read(
     })
 }
 
+// DPCH slot on two antennas
+
+unsafe extern "C" {
+    fn slt_slot_map_antenna(
+        format: usize, slot: usize, antenna: usize, tpc: usize, data: *const u8, n_data: usize, tfci: *const u8,
+        n_tfci: usize, out: *mut u8, n_out: usize,
+    ) -> u64;
+    fn slt_slot_read_antennas(
+        format: usize, slot: usize, first: *const u8, n_first: usize, second: *const u8, n_second: usize,
+        data: *mut u8, n_data: usize, tfci: *mut u8, n_tfci: usize,
+    ) -> u64;
+}
+
+/// The numbers are format, slot, antenna and command.
+pub fn slot_map_antenna(
+    [format, slot, antenna, tpc]: [usize; 4], data: &mut Lent<u8>, tfci: &mut Lent<u8>, out: &mut Lent<u8>,
+) -> Answer {
+    let (n_data, n_tfci, n_out) = (data.len(), tfci.len(), out.len());
+    Answer::unpack(unsafe {
+        slt_slot_map_antenna(
+            format, slot, antenna, tpc, data.pointer(), n_data, tfci.pointer(), n_tfci, out.pointer(), n_out,
+        )
+    })
+}
+
+pub fn slot_read_antennas(
+    format: usize, slot: usize, [first, second]: [&mut Lent<u8>; 2], data: &mut Lent<u8>, tfci: &mut Lent<u8>,
+) -> Answer {
+    let (n_first, n_second, n_data, n_tfci) = (first.len(), second.len(), data.len(), tfci.len());
+    Answer::unpack(unsafe {
+        slt_slot_read_antennas(
+            format, slot, first.pointer(), n_first, second.pointer(), n_second, data.pointer(), n_data,
+            tfci.pointer(), n_tfci,
+        )
+    })
+}
+
 // DPCH frame
 
 unsafe extern "C" {

@@ -28,6 +28,7 @@ type Channel = (&'static str, fn(&mut Judge));
 const CHANNELS: &[Channel] = &[
     ("pich", compare::pich::all),
     ("dpch", compare::dpch::all),
+    ("antenna", compare::antenna::all),
     ("frame", compare::frame::all),
     ("dpdch", compare::dpdch::all),
     ("dpcch", compare::dpcch::all),

@@ -2,15 +2,16 @@
 -- follows from what is proved of the base.
 -- Assumes nothing.
 use mathlib.Core.Path.{_≡_, refl, sym, ap, _∙_}
-use mathlib.Core.Bool.{Bool, true, false, _||_}
+use mathlib.Core.Bool.{Bool, true, false, not, _||_}
 use mathlib.Core.List.{List}
 use Prim.Native.Nat.{ℕ, _≤_, _<_}
 use native.Mathlib.Omega.{arith}
+use borrow.Author.Tests.{leb-true, leb-false, not-true, not-false}
 use lib.Dec.{lit<}
 use lib.ListN.{length, getD}
 use lib.IntN.{ℤ, pos}
 use Rattle.run.specs.declared.Verdict.{Verdict}
-use Rattle.run.specs.First.{firstBad, Every}
+use Rattle.run.specs.First.{firstBad, all, Every}
 use Rattle.run.specs.Refusals.{signatureRefused}
 use Rattle.run.specs.Verdicts.{refused, done, orElse, leaves}
 use Rattle.run.proofs.First.{first-below, first-fails, none-first, every-by}
@@ -221,6 +222,14 @@ module _ (available : ℕ) (x v : List ℤ) where
 
     pub map-done : 16 ≤ s → {after : List ℤ} → after ≡ valuesOf x → MapAvailable available x v (mapVerdict x (length v)) after
     map-done l out = map-ended (ended-done _ (map-plain x (length v)) available x (valuesOf x) v h s e l out)
+
+-- what `none_stray` told: there is a signature that may not have its indicator, or there is none
+module _ (available : ℕ) (x : List ℤ) {good : Bool} (e : good ≡ all 16 (allows available x)) where
+  pub some-stray : not good ≡ true → firstBad (allows available x) 16 < 16
+  some-stray h = leb-false _ _ (sym e ∙ not-true good h)
+
+  pub none-stray : not good ≡ false → 16 ≤ firstBad (allows available x) 16
+  none-stray h = leb-true _ _ (sym e ∙ not-false good h)
 
 -- an indicator is its own sign
 units-same : (v : List ℤ) → unitsOf (indicatorsIn v) ≡ indicatorsIn v

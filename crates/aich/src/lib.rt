@@ -245,11 +245,10 @@ pub fn map_available(available: u16, indicators: &[i32], values: &mut [i32]) -> 
     if verdict.number != 0 {
         return verdict;
     }
-    let stray = set::first_stray(available, indicators);
-    if stray < 16 {
+    if !set::none_stray(available as u32, indicators) {
         return Verdict {
             number: refusal::SIGNATURE,
-            place: stray,
+            place: set::first_stray(available as u32, indicators),
         };
     }
     write_values(indicators, values);
@@ -268,11 +267,10 @@ pub fn read_available(available: u16, values: &[i32], indicators: &mut [i32]) ->
     if verdict.number != 0 {
         return verdict;
     }
-    let stray = set::first_stray(available, &found);
-    if stray < 16 {
+    if !set::none_stray(available as u32, &found) {
         return Verdict {
             number: refusal::SIGNATURE,
-            place: stray,
+            place: set::first_stray(available as u32, &found),
         };
     }
     write_indicators(&found, indicators);

@@ -19,6 +19,18 @@ fn slot_map(line: &[u8], out: &mut [u8]) -> Verdict {
     )
 }
 
+fn antenna_map(line: &[u8], out: &mut [u8]) -> Verdict {
+    antenna_map::map(
+        number(line, 1),
+        number(line, 2),
+        number(line, 3),
+        number(line, 4),
+        run(line, 6),
+        run(line, 5),
+        out,
+    )
+}
+
 fn frame_map(line: &[u8], out: &mut [u8]) -> Verdict {
     frame_map::map(
         number(line, 1),
@@ -45,6 +57,7 @@ fn pich_read(line: &[u8], indicators: &mut [u8]) -> Verdict {
 fn write_one(call: usize, line: &[u8], out: &mut [u8]) -> Verdict {
     match call {
         question::SLOT_MAP => slot_map(line, out),
+        question::ANTENNA_MAP => antenna_map(line, out),
         question::FRAME_MAP => frame_map(line, out),
         question::PCCPCH_READ => pccpch_read(line, out),
         question::PICH_MAP => pich_map(line, out),
@@ -56,6 +69,20 @@ fn write_one(call: usize, line: &[u8], out: &mut [u8]) -> Verdict {
 
 fn slot_read(line: &[u8], tfci: &mut [u8], data: &mut [u8]) {
     let command = slot_read::read(number(line, 1), number(line, 2), run(line, 3), data, tfci);
+    answer::verdict(command.verdict);
+    answer::text(b" TPC=");
+    answer::number(command.tpc);
+}
+
+fn antennas_read(line: &[u8], tfci: &mut [u8], data: &mut [u8]) {
+    let command = antenna_read::read(
+        number(line, 1),
+        number(line, 2),
+        run(line, 3),
+        run(line, 4),
+        data,
+        tfci,
+    );
     answer::verdict(command.verdict);
     answer::text(b" TPC=");
     answer::number(command.tpc);
@@ -73,6 +100,7 @@ fn frame_read(line: &[u8], commands: &mut [u8], tfci: &mut [u8], data: &mut [u8]
 fn write(call: usize, line: &[u8], first: &mut [u8], second: &mut [u8], third: &mut [u8]) {
     match call {
         question::SLOT_READ => slot_read(line, second, third),
+        question::ANTENNAS_READ => antennas_read(line, second, third),
         question::PCCPCH_MAP => pccpch_map(line, second, third),
         question::DPCCH_READ => uplink::read(line, second, third),
         question::FRAME_READ => frame_read(line, first, second, third),

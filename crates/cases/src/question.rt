@@ -11,65 +11,69 @@ ghost use mathlib.Core.Path.{_≡_};
 ghost use lib.ListN.{length, take};
 ghost use Rattle.io.specs.Counts.{Counts};
 
-// The calls, in the order in which `call` lists their words: those that are lent one run of digits, of which 11, STTD, has no name here since it is told as the
+// The calls, in the order in which `call` lists their words: those that are lent one run of digits, of which 12, STTD, has no name here since it is told as the
 // rest; those that are lent two, those that are lent three; then the calls of other kinds.
 pub(crate) const SLOT_MAP: usize = 0;
 
-pub(crate) const FRAME_MAP: usize = 1;
+pub(crate) const ANTENNA_MAP: usize = 1;
 
-pub(crate) const PCCPCH_READ: usize = 2;
+pub(crate) const FRAME_MAP: usize = 2;
 
-pub(crate) const PICH_MAP: usize = 3;
+pub(crate) const PCCPCH_READ: usize = 3;
 
-pub(crate) const PICH_READ: usize = 4;
+pub(crate) const PICH_MAP: usize = 4;
 
-pub(crate) const DPDCH_MAP: usize = 5;
+pub(crate) const PICH_READ: usize = 5;
 
-pub(crate) const DPDCH_READ: usize = 6;
+pub(crate) const DPDCH_MAP: usize = 6;
 
-pub(crate) const DPDCH_FRAME_MAP: usize = 7;
+pub(crate) const DPDCH_READ: usize = 7;
 
-pub(crate) const DPDCH_FRAME_READ: usize = 8;
+pub(crate) const DPDCH_FRAME_MAP: usize = 8;
 
-pub(crate) const DPCCH_MAP: usize = 9;
+pub(crate) const DPDCH_FRAME_READ: usize = 9;
 
-pub(crate) const DPCCH_FRAME_MAP: usize = 10;
+pub(crate) const DPCCH_MAP: usize = 10;
 
-pub(crate) const SLOT_READ: usize = 12;
+pub(crate) const DPCCH_FRAME_MAP: usize = 11;
 
-pub(crate) const PCCPCH_MAP: usize = 13;
+pub(crate) const SLOT_READ: usize = 13;
 
-pub(crate) const DPCCH_READ: usize = 14;
+pub(crate) const ANTENNAS_READ: usize = 14;
 
-pub(crate) const FRAME_READ: usize = 15;
+pub(crate) const PCCPCH_MAP: usize = 15;
 
-pub(crate) const DPCCH_FRAME_READ: usize = 16;
+pub(crate) const DPCCH_READ: usize = 16;
 
-pub(crate) const PICH_Q: usize = 17;
+pub(crate) const FRAME_READ: usize = 17;
 
-pub(crate) const AICH_MAP: usize = 18;
+pub(crate) const DPCCH_FRAME_READ: usize = 18;
 
-pub(crate) const AICH_READ: usize = 19;
+pub(crate) const PICH_Q: usize = 19;
 
-pub(crate) const AICH_MAP_AVAILABLE: usize = 20;
+pub(crate) const AICH_MAP: usize = 20;
 
-pub(crate) const AICH_READ_AVAILABLE: usize = 21;
+pub(crate) const AICH_READ: usize = 21;
 
-pub(crate) const STTD_VALUES: usize = 22;
+pub(crate) const AICH_MAP_AVAILABLE: usize = 22;
 
-pub(crate) const AICH_COMBINE: usize = 23;
+pub(crate) const AICH_READ_AVAILABLE: usize = 23;
 
-pub(crate) const SAMPLE: usize = 24;
+pub(crate) const STTD_VALUES: usize = 24;
 
-pub(crate) const JOB: usize = 25;
+pub(crate) const AICH_COMBINE: usize = 25;
 
-pub(crate) const DESK_SERVE: usize = 26;
+pub(crate) const SAMPLE: usize = 26;
 
-pub(crate) const DESK_TO_AICH: usize = 27;
+pub(crate) const JOB: usize = 27;
 
-pub(crate) const DESK_TO_MESSAGE: usize = 28;
+pub(crate) const DESK_SERVE: usize = 28;
 
-pub(crate) const NONE: usize = 29;
+pub(crate) const DESK_TO_AICH: usize = 29;
+
+pub(crate) const DESK_TO_MESSAGE: usize = 30;
+
+pub(crate) const NONE: usize = 31;
 
 // How many digits and how many whole numbers a run has at most.
 pub(crate) const DIGITS: usize = 300;
@@ -128,7 +132,7 @@ pub(crate) fn call(line: &[u8]) -> usize {
     let mut k = 0;
     while k < NONE {
         let name = piece(
-            b" slot map , frame map , P-CCPCH read , PICH map , PICH read , DPDCH map , DPDCH read , DPDCH frame map , DPDCH frame read , DPCCH map , DPCCH frame map , STTD digits , slot read , P-CCPCH map , DPCCH read , frame read , DPCCH frame read , PICH q , AICH map , AICH read , AICH available map , AICH available read , STTD values , AICH combine , sample , job , desk serve , desk to AICH , desk to message ",
+            b" slot map , antenna map , frame map , P-CCPCH read , PICH map , PICH read , DPDCH map , DPDCH read , DPDCH frame map , DPDCH frame read , DPCCH map , DPCCH frame map , STTD digits , slot read , antennas read , P-CCPCH map , DPCCH read , frame read , DPCCH frame read , PICH q , AICH map , AICH read , AICH available map , AICH available read , STTD values , AICH combine , sample , job , desk serve , desk to AICH , desk to message ",
             b',',
             k,
         );

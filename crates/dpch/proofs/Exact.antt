@@ -1,14 +1,15 @@
 -- The theorems of specs/Exact.antt.
 -- Assumes nothing.
 use mathlib.Core.Path.{_≡_, refl, sym, ap, _∙_, subst}
-use mathlib.Core.Bool.{Bool, true, _&&_, _||_}
-use mathlib.Core.List.{List, [], _∷_}
+use mathlib.Core.Bool.{Bool, true, false, _&&_, _||_}
+use mathlib.Core.List.{List, [], _∷_, map}
 use Prim.Native.Nat.{ℕ, _+_, _-_, _*_, _^_, _≤_, _<_}
 use native.Mathlib.Nat.{not-suc-le-zero}
 use native.Mathlib.Omega.{arith}
-use borrow.Author.Tests.{eqb-true, leb-true, ltb-true, le-leb}
-use lib.Dec.{leb, ltb, eqb}
-use lib.ListN.{length, getD, take, drop, replicate, length-append}
+use borrow.Author.Tests.{eqb-true, leb-true, ltb-true, ltb-false, le-leb}
+use lib.Dec.{leb, ltb, eqb, lit<}
+use lib.ListN.{length, getD, take, drop, replicate, length-append, List·getD-eq-default}
+use lib.Seq.{take-all}
 use Rattle.run.specs.First.{firstBad, Every}
 use Rattle.run.specs.Fields.{total, cut, joined, field, start}
 use Rattle.run.specs.Table.{tab}
@@ -16,15 +17,17 @@ use Rattle.run.proofs.Bools.{and-left, and-right, either}
 use Rattle.run.proofs.Each.{Each, each-take, each-drop, each-append}
 use Rattle.run.proofs.Fields.{field-is, field-length}
 use Rattle.run.proofs.First.{every-by}
+use Rattle.run.proofs.Stretch.{each-field}
 use Rattle.run.proofs.Table.{by-table, table-test, all-of}
 use Rattle.dpch.specs.declared.Format.{Format}
 use Rattle.dpch.specs.declared.Dpcch.{Dpcch}
 use Rattle.dpch.specs.Formats.{row, formats, formatOf, widths}
-use Rattle.dpch.specs.Pilots.{symbols1, symbols3, symbols5, symbols7, symbolsOf, symbolsFor, pilotRow, pilotSource, pilotOf}
+use Rattle.dpch.specs.Pilots.{bitsOf, symbols1, symbols3, symbols5, symbols7, symbolsOf, symbolsFor, pilotRow, pilotSource, pilotOf}
+use Rattle.dpch.specs.SecondPilots.{table14, printed14, patterns14, secondPilot, secondSource}
 use Rattle.dpch.specs.Uplink.{dpdchSizes, dpdchSize, dpcchRow, dpcchFormats, dpcchFormat, dpcchWidths}
 use Rattle.dpch.specs.UplinkPilots.{table3, table4, printedRow, patterns, dpcchPilot, shadowed, wordBits, pinnedBit, pinnedPilot}
 use Rattle.dpch.specs.Layouts.{Layout, Channel, downlinkDpch, uplinkDpdch, uplinkDpcch, layoutOf}
-use Rattle.dpch.specs.Exact.{FieldsFill, FormatSizes, FormatPilots, DpdchSizes, DpdchShort, DpcchFormats, DpcchPilots, PilotsPinned}
+use Rattle.dpch.specs.Exact.{FieldsFill, FormatSizes, FormatPilots, FormatSecondPilots, PatternsBegin, DpdchSizes, DpdchShort, DpcchFormats, DpcchPilots, PilotsPinned}
 
 -- a test of a format that holds for each row, and for the row of zeros, holds for every number
 every-format : (ok : Format → Bool) → ok (row 0 0 0 0 0 0) ≡ true → all-of ok formats ≡ true → (n : ℕ) → ok (formatOf n) ≡ true
@@ -98,6 +101,68 @@ format-pilots format slot =
       digits = λ h k. leb-true _ _ (table-test (λ (x : ℕ). leb x 1) 0 refl (pilotOf (formatOf format .pilot) slot) (pilot-bits format slot h) k);
     }
 
+-- ---- antenna 2
+
+abbrev bit : ℕ → Bool
+bit x = leb x 1
+
+-- a row has so many digits, and all are bits
+is-row : ℕ → List ℕ → Bool
+is-row n row = eqb (length row) n && all-of bit row
+
+row-long : (n : ℕ) (row : List ℕ) → is-row n row ≡ true → length row ≡ n
+unfolding is-row
+row-long n row e = eqb-true _ _ (and-left _ _ e)
+
+row-bits : (n : ℕ) (row : List ℕ) → is-row n row ≡ true → Each bit row
+unfolding is-row
+row-bits n row e k h = table-test bit 0 refl row (and-right (eqb (length row) n) _ e) k
+
+printed-row : (slot : ℕ) → is-row 30 (printed14 slot) ≡ true
+unfolding table14 printed14 joined is-row
+printed-row slot = table-test (λ (row : List ℕ). is-row 30 (joined (map bitsOf row))) (replicate 15 0) refl table14 refl slot
+
+-- a part of the row
+second-long : (slot k : ℕ) → k < 4 → length (field k patterns14 (printed14 slot)) ≡ getD patterns14 k 0
+unfolding total
+second-long slot k h = let n = row-long 30 _ (printed-row slot) in field-length k patterns14 (printed14 slot) h (omega arith)
+
+second-bits : (slot k : ℕ) → k < 4 → Each bit (field k patterns14 (printed14 slot))
+second-bits slot k h = each-field bit k patterns14 (printed14 slot) h (row-bits 30 _ (printed-row slot))
+
+-- a slot of the table, or one past it
+by-slot : (slot : ℕ) {X : Type 0} → (slot < 15 → X) → (15 ≤ slot → X) → X
+by-slot slot {X} f g = side (ltb slot 15) refl
+  where
+    side : (b : Bool) → ltb slot 15 ≡ b → X
+    side true e = f (ltb-true _ _ e)
+    side false e = g (ltb-false _ _ e)
+
+pub patterns-begin : PatternsBegin
+unfolding tab table14 printed14 secondPilot field cut joined
+patterns-begin slot =
+    by-slot slot
+    (λ h.
+    record {
+      eight = by-table [] 15 (secondPilot 8) (λ (k : ℕ). take 8 (secondPilot 16 k)) refl slot h;
+      two = by-table [] 15 (secondPilot 2) (λ (k : ℕ). take 2 (secondPilot 4 k)) refl slot h;
+    })
+    (λ h. let past = List·getD-eq-default table14 (replicate 15 0) h in record { eight = rw past; two = rw past })
+
+pub format-second-pilots : FormatSecondPilots
+unfolding secondPilot secondSource
+format-second-pilots format slot =
+    record {
+      cut-from = at-each (λ (n : ℕ). (n ≡ 2 → ⊥) → secondPilot n slot ≡ take n (secondSource n slot)) (λ _. refl) (λ not. absurd (not refl))
+          (λ _. sym (take-all 4 _ (let n = second-long slot 1 (lit< tt) in omega arith))) (λ _. patterns-begin slot .eight)
+          (λ _. sym (take-all 16 _ (let n = second-long slot 3 (lit< tt) in omega arith))) format;
+      enough = at-each (λ (n : ℕ). (n ≡ 2 → ⊥) → n ≤ length (secondSource n slot)) (λ _. omega arith) (λ not. absurd (not refl))
+          (λ _. let n = second-long slot 1 (lit< tt) in omega arith) (λ _. let n = second-long slot 3 (lit< tt) in omega arith)
+          (λ _. let n = second-long slot 3 (lit< tt) in omega arith) format;
+      long = at-each (λ (n : ℕ). length (secondPilot n slot) ≡ n) refl (second-long slot 0 (lit< tt)) (second-long slot 1 (lit< tt)) (second-long slot 2 (lit< tt)) (second-long slot 3 (lit< tt)) format;
+      digits = at-each (λ (n : ℕ). Each bit (secondPilot n slot)) (λ k h. absurd (not-suc-le-zero h)) (second-bits slot 0 (lit< tt)) (second-bits slot 1 (lit< tt)) (second-bits slot 2 (lit< tt)) (second-bits slot 3 (lit< tt)) format;
+    }
+
 -- ---- the uplink
 
 sizes-double : Every (λ (n : ℕ). eqb (dpdchSize n) (10 * 2 ^ n)) 7
@@ -134,13 +199,6 @@ pilots-pinned bits slot low high h =
     (by-table [] 15 (dpcchPilot (3 + (bits - 3))) (pinnedPilot (3 + (bits - 3)))
     (by-table [] 6 (λ (j : ℕ). tab 15 (dpcchPilot (3 + j))) (λ (j : ℕ). tab 15 (pinnedPilot (3 + j))) refl (bits - 3) j) slot h)
 
-abbrev bit : ℕ → Bool
-bit x = leb x 1
-
--- a row has so many digits, and all are bits
-is-row : ℕ → List ℕ → Bool
-is-row n row = eqb (length row) n && all-of bit row
-
 row3 : (slot : ℕ) → is-row 18 (getD table3 slot (replicate 18 0)) ≡ true
 unfolding table3 is-row
 row3 slot = table-test (is-row 18) (replicate 18 0) refl table3 refl slot
@@ -148,14 +206,6 @@ row3 slot = table-test (is-row 18) (replicate 18 0) refl table3 refl slot
 row4 : (slot : ℕ) → is-row 15 (getD table4 slot (replicate 15 0)) ≡ true
 unfolding table4 is-row
 row4 slot = table-test (is-row 15) (replicate 15 0) refl table4 refl slot
-
-row-long : (n : ℕ) (row : List ℕ) → is-row n row ≡ true → length row ≡ n
-unfolding is-row
-row-long n row e = eqb-true _ _ (and-left _ _ e)
-
-row-bits : (n : ℕ) (row : List ℕ) → is-row n row ≡ true → Each bit row
-unfolding is-row
-row-bits n row e k h = table-test bit 0 refl row (and-right (eqb (length row) n) _ e) k
 
 pub row4-long : (slot : ℕ) → length (getD table4 slot (replicate 15 0)) ≡ 15
 row4-long slot = row-long 15 _ (row4 slot)

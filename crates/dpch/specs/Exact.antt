@@ -6,6 +6,7 @@ use lib.ListN.{length, getD, take}
 use Rattle.run.specs.First.{Every, atMost}
 use Rattle.dpch.specs.Formats.{formatOf}
 use Rattle.dpch.specs.Pilots.{pilotSource, pilotOf}
+use Rattle.dpch.specs.SecondPilots.{secondPilot, secondSource}
 use Rattle.dpch.specs.Uplink.{dpdchSize, dpcchFormat}
 use Rattle.dpch.specs.UplinkPilots.{dpcchPilot, pinnedPilot}
 use Rattle.dpch.specs.Layouts.{Fills, Channel, layoutOf}
@@ -31,6 +32,24 @@ pub record Pilot (format slot : ℕ) : Type 0 where
 
 abbrev pub FormatPilots : Type 0
 FormatPilots = (format slot : ℕ) → Pilot format slot
+
+-- so it is with antenna 2's pilot, where it is not one of two bits: those are encoded with the data before them
+pub record SecondPilot (format slot : ℕ) : Type 0 where
+  pub cut-from : (formatOf format .pilot ≡ 2 → ⊥) → secondPilot (formatOf format .pilot) slot ≡ take (formatOf format .pilot) (secondSource (formatOf format .pilot) slot)
+  pub enough : (formatOf format .pilot ≡ 2 → ⊥) → formatOf format .pilot ≤ length (secondSource (formatOf format .pilot) slot)
+  pub long : length (secondPilot (formatOf format .pilot) slot) ≡ formatOf format .pilot
+  pub digits : Every (atMost 1 (secondPilot (formatOf format .pilot) slot)) (length (secondPilot (formatOf format .pilot) slot))
+
+abbrev pub FormatSecondPilots : Type 0
+FormatSecondPilots = (format slot : ℕ) → SecondPilot format slot
+
+-- table 14: the 8-bit pattern begins the 16-bit one, and what is printed for two bits begins the 4-bit one
+pub record Begins (slot : ℕ) : Type 0 where
+  pub eight : secondPilot 8 slot ≡ take 8 (secondPilot 16 slot)
+  pub two : secondPilot 2 slot ≡ take 2 (secondPilot 4 slot)
+
+abbrev pub PatternsBegin : Type 0
+PatternsBegin = (slot : ℕ) → Begins slot
 
 -- ---- the uplink
 

@@ -1,6 +1,6 @@
 -- The theorems of specs/Exact.antt.
 -- Assumes nothing.
-use mathlib.Core.Path.{_≡_, refl, sym, ap, _∙_, subst₂}
+use mathlib.Core.Path.{_≡_, refl, sym, ap, _∙_, subst, subst₂}
 use mathlib.Core.Bool.{true}
 use mathlib.Core.List.{List}
 use mathlib.Core.Logic.{_↔_}
@@ -12,9 +12,11 @@ use lib.ListN.{length, getD}
 use lib.Seq.{ext-getD}
 use Rattle.run.specs.Digits.{dtx}
 use Rattle.run.specs.First.{Every, atMost}
+use Rattle.run.specs.Pairs.{Reads, PairGiven, PairRead}
 use Rattle.run.specs.Verdicts.{done, Narrow}
 use Rattle.run.proofs.Chain.{or-else-pass, unless-pass, each-pass, or-else-narrow, check-narrow, each-narrow, one-outcome, number-0}
 use Rattle.run.proofs.First.{no-diff, diff-none}
+use Rattle.run.proofs.Pairs.{pairs-exact}
 use Rattle.sttd.specs.Rule.{sttd, barDigit}
 use Rattle.sttd.proofs.Bars.{bar-keeps-bit}
 use Rattle.sttd.proofs.Laws.{sttd-keeps, block}
@@ -61,12 +63,17 @@ module _ (frame : List ℕ) (k : ℕ) where
   unfolding rightKind
   sounds-kind l e = rw (le-ltb (k % 20) 2 l, ne-eqb _ _ e)
 
--- ---- what reading accepts, its data gives
-module _ (antenna1 antenna2 : List ℕ) (a : Accepted antenna1 antenna2 270) where
+-- ---- a frame of antenna 1 that reads, its data gives
+record FirstOk (antenna1 : List ℕ) : Type 0 where
+  long : length antenna1 ≡ 300
+  digits : Every (atMost 2 antenna1) (length antenna1)
+  kinds : Every (rightKind antenna1) 300
+
+module _ (antenna1 : List ℕ) (a : FirstOk antenna1) where
   read-first : frameOf (dataIn antenna1) ≡ antenna1
   read-first =
       let long = frame-length (dataIn antenna1) in
-      ext-getD 0 (frameOf (dataIn antenna1)) antenna1 (long ∙ sym (a .head .first-ok)) (λ k h. at-place k (rw long at h))
+      ext-getD 0 (frameOf (dataIn antenna1)) antenna1 (long ∙ sym (a .long)) (λ k h. at-place k (rw long at h))
     where
       at-place : (k : ℕ) → k < 300 → getD (frameOf (dataIn antenna1)) k 0 ≡ getD antenna1 k 0
       at-place k h =
@@ -77,17 +84,12 @@ module _ (antenna1 antenna2 : List ℕ) (a : Accepted antenna1 antenna2 270) whe
           ∙ data-at antenna1 (digitOf k) (digit-within k h l)
           ∙ ap (λ (n : ℕ). getD antenna1 n 0) (place-digit k l))
 
-  read-second : secondOf (dataIn antenna1) ≡ antenna2
-  read-second =
-      let long = second-length (dataIn antenna1) in
-      no-diff (secondOf (dataIn antenna1)) antenna2 (long ∙ sym (a .head .second-ok)) (λ k h. a .agrees k (rw long at h))
-
   read-bits : Every (atMost 1 (dataIn antenna1)) (length (dataIn antenna1))
   read-bits d l =
       let h : d < 270 = rw (data-length antenna1) at l in
       let p = place-within d h in
-      let long = a .head .first-ok in
-      let small : getD antenna1 (place d) 0 ≤ 2 = leb-true _ _ (a .head .digits1-ok (place d) (omega arith)) in
+      let long = a .long in
+      let small : getD antenna1 (place d) 0 ≤ 2 = leb-true _ _ (a .digits (place d) (omega arith)) in
       let bit = kind-sounds antenna1 (place d) (place-sounds d) (a .kinds (place d) p) in
       le-leb (getD (dataIn antenna1) d 0) 1 (rw (data-at antenna1 d h) (omega arith))
 
@@ -98,6 +100,16 @@ module _ (antenna1 antenna2 : List ℕ) (a : Accepted antenna1 antenna2 270) whe
       (or-else-pass (unless-pass 3 1 (eq-eqb 300 300 refl))
       (or-else-pass (unless-pass 3 2 (eq-eqb 300 300 refl))
       (each-pass 0 4 _ _ read-bits)))
+
+-- what reading accepts: such a frame, and beside it what it implies
+module _ (antenna1 antenna2 : List ℕ) (a : Accepted antenna1 antenna2 270) where
+  accepted-first : FirstOk antenna1
+  accepted-first = record { long = a .head .first-ok; digits = a .head .digits1-ok; kinds = a .kinds }
+
+  read-second : secondOf (dataIn antenna1) ≡ antenna2
+  read-second =
+      let long = second-length (dataIn antenna1) in
+      no-diff (secondOf (dataIn antenna1)) antenna2 (long ∙ sym (a .head .second-ok)) (λ k h. a .agrees k (rw long at h))
 
 -- ---- the frame of bits: DTX stands at the silent places, and nowhere else
 module _ (digits : List ℕ) (bits : (d : ℕ) → d < 270 → getD digits d 0 ≤ 1) where
@@ -164,8 +176,34 @@ module _ (digits : List ℕ) (t : Taken digits 300 300) where
 given : {digits antenna1 antenna2 : List ℕ} → Gives digits antenna1 antenna2 → Taken digits 300 300
 given {digits} g = taken digits 300 300 (number-0 (g .taken))
 
-handed : (antenna1 antenna2 digits : List ℕ) → Gives digits antenna1 antenna2 → dataIn antenna1 ≡ digits
-handed antenna1 antenna2 digits g = ap dataIn (sym (g .first)) ∙ mapped-back digits (given g)
+-- the reader of one frame, of which the reader of both is a case
+abbrev TakenBoth : List ℕ → Type 0
+TakenBoth digits = mapVerdict digits 300 300 ≡ done
+
+mapped-first : (digits : List ℕ) → TakenBoth digits → FirstOk (frameOf digits)
+mapped-first digits e =
+    let t = taken digits 300 300 (number-0 e) in
+    let n = frame-length digits in
+    record { long = n; digits = λ k l. le-leb _ 2 (frame-small digits (bits digits t) k (rw n at l)); kinds = frame-kinds digits (bits digits t) }
+
+back : (digits : List ℕ) → TakenBoth digits → dataIn (frameOf digits) ≡ digits
+back digits e = mapped-back digits (taken digits 300 300 (number-0 e))
+
+first-reads : Reads TakenBoth frameOf FirstOk dataIn
+first-reads =
+    record {
+      exactly = λ s. (
+        λ a. record { fields = dataIn s; taken = read-taken s a; gives = read-first s a },
+        λ g. subst FirstOk (g .gives) (mapped-first (g .fields) (g .taken)),
+      );
+      back = back;
+    }
+
+pair : (antenna1 antenna2 : List ℕ) → PairRead TakenBoth frameOf secondOf FirstOk dataIn (λ (s : List ℕ). secondOf (dataIn s)) antenna1 antenna2
+pair = pairs-exact (List ℕ) (List ℕ) TakenBoth frameOf secondOf FirstOk dataIn (λ (s : List ℕ). secondOf (dataIn s)) first-reads (λ x e. ap secondOf (sym (back x e)))
+
+abbrev as-pair : {digits antenna1 antenna2 : List ℕ} → Gives digits antenna1 antenna2 → PairGiven TakenBoth frameOf secondOf antenna1 antenna2
+as-pair {digits} g = record { fields = digits; taken = g .taken; first = g .first; second = g .second }
 
 pub read-exact : ReadExact
 read-exact antenna1 antenna2 =
@@ -173,11 +211,12 @@ read-exact antenna1 antenna2 =
       accepts = (
         λ e.
             let a = accepted antenna1 antenna2 270 (number-0 e) in
-            (dataIn antenna1, record { taken = read-taken antenna1 antenna2 a; first = read-first antenna1 antenna2 a; second = read-second antenna1 antenna2 a }),
+            let g = pair antenna1 antenna2 .exactly .0 (accepted-first antenna1 antenna2 a, read-second antenna1 antenna2 a) in
+            (g .fields, record { taken = g .taken; first = g .first; second = g .second }),
         λ s. subst₂ (λ (f g : List ℕ). readVerdict f g 270 ≡ done) (s .1 .first) (s .1 .second) (mapped-accepted (s .0) (given (s .1))),
       );
-      hands-back = handed antenna1 antenna2;
-      one-set = λ ds es g h. sym (handed antenna1 antenna2 ds g) ∙ handed antenna1 antenna2 es h;
+      hands-back = λ digits g. pair antenna1 antenna2 .hands-back (as-pair g);
+      one-set = λ digits others g h. pair antenna1 antenna2 .one-set (as-pair g) (as-pair h);
     }
 
 pub dtx-places : DtxPlaces

@@ -14,3 +14,4 @@ pub mod Ranges
 pub mod Stretch
 pub mod Frames
 pub mod Never
+pub mod Pairs

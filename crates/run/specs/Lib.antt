@@ -7,3 +7,4 @@ pub mod Fields
 pub mod Parts
 pub mod Written
 pub mod Ranges
+pub mod Pairs

@@ -34,7 +34,7 @@ pilotRefused = 7
 abbrev pub npRefused : ℕ
 npRefused = 8
 
--- 9: PICH or P-CCPCH frame that no fields give
+-- 9: PICH or P-CCPCH frame, or second stream of a DPCH slot, that no fields give
 abbrev pub frameRefused : ℕ
 frameRefused = 9
 

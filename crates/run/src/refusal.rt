@@ -16,7 +16,7 @@ pub const TFCI: usize = 6;
 pub const PILOT: usize = 7;
 // 8: Np not 18, 36, 72, 144.
 pub const NP: usize = 8;
-// 9: PICH or P-CCPCH frame that no fields give.
+// 9: PICH or P-CCPCH frame, or second stream of a DPCH slot, that no fields give.
 pub const FRAME: usize = 9;
 // 10: AICH values that no indicators give.
 pub const VALUES: usize = 10;

@@ -19,7 +19,7 @@ ghost use Rattle.slot.specs.Ready.{Whole};
 fn pilot_differs(s: &[u8], slot: usize) -> usize
     ensures { λ r. ⌜ r ≡ firstBad (agree (now (s .entry)) (pilotSource (length (now (s .entry))) slot)) (min (length (now (s .entry))) (length (pilotSource (length (now (s .entry))) slot))) ⌝ }
 {
-    let row = dpch::pilot_row(slot);
+    let row = dpch::pilot_row(0, slot);
     if s.len() == 2 {
         scan::first_diff(s, &row[2..4])
     } else {

@@ -117,7 +117,7 @@ fn is_pilot(s: &[u8], slot: usize) -> bool
     requires { ⌜ PilotWidth (length (now s)) ⌝ }
     ensures { λ r. ⌜ r ≡ all (length (now (s .entry))) (agree (now (s .entry)) (pilotOf (length (now (s .entry))) slot)) ⌝ }
 {
-    let row = dpch::pilot_row(slot);
+    let row = dpch::pilot_row(0, slot);
     match s.len() {
         2 => all_agree(s, &row[2..4], 2),
         4 => all_agree(s, &row, 4),

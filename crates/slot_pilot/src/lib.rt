@@ -1,9 +1,10 @@
-// The pilot field of a slot of the downlink DPCH, written (rule, promises and theorems are those of the crates `dpch` and `slot`): docs/RULES.md, 'DPCH slot'; TS 25.211, 5.3.2.
+// The pilot field of a slot of the downlink DPCH, written (rule, promises and theorems are those of the crates `dpch` and `slot`): docs/RULES.md, 'DPCH slot'; TS 25.211, 5.3.2, and on antenna 2 5.3.2.1.
 ghost use mathlib.Core.Path.{_≡_};
 ghost use Prim.Native.Nat.{_≤_};
 ghost use lib.ListN.{length};
 ghost use Rattle.run.specs.Written.{over};
 ghost use Rattle.dpch.specs.Pilots.{pilotSource};
+ghost use Rattle.dpch.specs.SecondPilots.{secondSource};
 
 // The first n digits of `src` into a field of n. Here n is a number where the function is called, so that a field is one store.
 fn copy_n(dst: &mut [u8], src: &[u8], n: usize)
@@ -21,14 +22,38 @@ fn copy_n(dst: &mut [u8], src: &[u8], n: usize)
 pub fn write_pilot(dst: &mut [u8], slot: usize)
     ensures { λ _. ⌜ now (dst .exit) ≡ over (pilotSource (length (now (dst .entry))) slot) (now (dst .entry)) ⌝ }
 {
-    let row = dpch::pilot_row(slot);
+    let row = dpch::pilot_row(0, slot);
     match dst.len() {
         2 => copy_n(dst, &row[2..4], 2),
         4 => copy_n(dst, &row, 4),
         8 => copy_n(dst, &row, 8),
         16 => copy_n(dst, &row, 16),
         _ => {
-            let other = dpch::pilot_row(slot);
+            let other = dpch::pilot_row(0, slot);
+            write::copy(dst, &other)
+        }
+    }
+}
+
+// .. on antenna 2, where the pilot of four bits is not the beginning of the others.
+pub fn write_second(dst: &mut [u8], slot: usize)
+    ensures { λ _. ⌜ now (dst .exit) ≡ over (secondSource (length (now (dst .entry))) slot) (now (dst .entry)) ⌝ }
+{
+    match dst.len() {
+        4 => {
+            let four = dpch::pilot_four(slot);
+            copy_n(dst, &four, 4)
+        }
+        8 => {
+            let eight = dpch::pilot_row(1, slot);
+            copy_n(dst, &eight, 8)
+        }
+        16 => {
+            let row = dpch::pilot_row(1, slot);
+            copy_n(dst, &row, 16)
+        }
+        _ => {
+            let other = dpch::pilot_row(1, slot);
             write::copy(dst, &other)
         }
     }

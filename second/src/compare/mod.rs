@@ -4,6 +4,7 @@
 
 pub mod aich;
 pub mod aich_available;
+pub mod antenna;
 pub mod combiner;
 pub mod desk;
 pub mod dpcch;

@@ -5,6 +5,7 @@
 //! `job` is the rule of the program: it takes the bytes of a file and answers the text that is printed.
 
 pub mod aich;
+pub mod antenna;
 pub mod combiner;
 pub mod desk;
 pub mod dpcch;

@@ -1,8 +1,9 @@
 -- `aich::map_available` meets its contract: the base's verdict, then the set, and then the base's own writer.
 -- Assumes nothing.
+use mathlib.Core.Path.{refl}
 use borrow.Author.Needs.{needs}
 use Rattle.aich.proofs.Checks.{taken}
-use Rattle.aich.proofs.Available.{map-refused, map-stray, map-done}
+use Rattle.aich.proofs.Available.{map-refused, map-stray, map-done, some-stray, none-stray}
 use Rattle.aich.proofs.map_available.Statement.{statement}
 use Rattle.aich.proofs.map_available.Tie as tie
 
@@ -14,14 +15,21 @@ returns c =
     let e = c .before .before .map-verdict .ensures in
     rw e (map-refused _ _ _ (rw e at (c .if1 .taken)))
 
+none-stray-requires : tie.Need-none-stray-requires
+none-stray-requires c κs =
+    taken _ _ (rw (c .before .before .map-verdict .ensures) at (c .if1 .left)) .indicators-ok .long
+
 first-stray-requires : tie.Need-first-stray-requires
 first-stray-requires c κs =
-    taken _ _ (rw (c .before .before .map-verdict .ensures) at (c .if1 .left)) .indicators-ok .long
+    let past = c .before .before in
+    taken _ _ (rw (past .before .before .map-verdict .ensures) at (past .if1 .left)) .indicators-ok .long
 
 returns-2 : tie.Need-returns-2
 returns-2 c =
-    let past = c .before .before in
-    map-stray _ _ _ (rw (past .before .before .map-verdict .ensures) at (past .if1 .left)) _ (c .before .first-stray .ensures) (c .if2 .taken)
+    let past = c .before .before .before in
+    let e = c .first-stray .ensures in
+    map-stray _ _ _ (rw (past .before .before .map-verdict .ensures) at (past .if1 .left)) _ e
+    (rw e (some-stray _ _ (c .before .before .none-stray .ensures) (c .before .if2 .taken)))
 
 write-values-requires : tie.Need-write-values-requires
 write-values-requires c κs =
@@ -37,7 +45,8 @@ returns-3 c =
     let room = c .before .before .before in
     let past = room .before .before in
     let e = past .before .before .map-verdict .ensures in
-    rw e (map-done _ _ _ (rw e at (past .if1 .left)) _ (room .before .first-stray .ensures) (room .if2 .left) (c .before .write-values .ensures))
+    rw e
+    (map-done _ _ _ (rw e at (past .if1 .left)) _ refl (none-stray _ _ (room .before .none-stray .ensures) (room .if2 .left)) (c .before .write-values .ensures))
 
 pub map-available-spec : {M : Type 1} → statement M
 map-available-spec =
@@ -45,6 +54,7 @@ map-available-spec =
     (tie.spec
     map-verdict-requires
     returns
+    none-stray-requires
     first-stray-requires
     returns-2
     write-values-requires

@@ -2,7 +2,7 @@
 -- Assumes nothing.
 use mathlib.Core.Path.{refl}
 use borrow.Author.Needs.{needs}
-use Rattle.aich.proofs.Available.{read-unfit, read-refused, read-stray, read-done}
+use Rattle.aich.proofs.Available.{read-unfit, read-refused, read-stray, read-done, some-stray, none-stray}
 use Rattle.aich.proofs.read_available.Statement.{statement}
 use Rattle.aich.proofs.read_available.Tie as tie
 
@@ -26,6 +26,12 @@ returns-2 c =
     let past = c .before .before .before in
     read-refused _ _ _ (past .before .before .if1 .left) (past .read2 .ensures) refl (c .if2 .taken)
 
+slice-aggregate-none-stray : tie.Need-slice-aggregate-none-stray
+slice-aggregate-none-stray c = search needs
+
+none-stray-requires : tie.Need-none-stray-requires
+none-stray-requires c κs = search needs
+
 slice-aggregate-first-stray : tie.Need-slice-aggregate-first-stray
 slice-aggregate-first-stray c = search needs
 
@@ -34,9 +40,12 @@ first-stray-requires c κs = search needs
 
 returns-3 : tie.Need-returns-3
 returns-3 c =
-    let good = c .before .before .before in
+    let room = c .before .before in
+    let good = room .before .before .before in
     let past = good .before .before .before in
-    read-stray _ _ _ (past .before .before .if1 .left) (past .read2 .ensures) refl (good .if2 .left) _ (c .before .first-stray .ensures) (c .if3 .taken)
+    let e = c .first-stray .ensures in
+    read-stray _ _ _ (past .before .before .if1 .left) (past .read2 .ensures) refl (good .if2 .left) _ e
+    (rw e (some-stray _ _ (room .before .none-stray .ensures) (room .if3 .taken)))
 
 slice-aggregate-write-indicators : tie.Need-slice-aggregate-write-indicators
 slice-aggregate-write-indicators c = search needs
@@ -52,7 +61,8 @@ returns-4 c =
     let room = c .before .before .before .before in
     let good = room .before .before .before in
     let past = good .before .before .before in
-    read-done _ _ _ (past .before .before .if1 .left) (past .read2 .ensures) refl (good .if2 .left) _ (room .before .first-stray .ensures) (room .if3 .left)
+    read-done _ _ _ (past .before .before .if1 .left) (past .read2 .ensures) refl (good .if2 .left) _ refl
+    (none-stray _ _ (room .before .none-stray .ensures) (room .if3 .left))
     (c .before .write-indicators .ensures)
 
 pub read-available-spec : {M : Type 1} → statement M
@@ -65,6 +75,8 @@ read-available-spec =
     slice-aggregate-read
     read-requires-2
     returns-2
+    slice-aggregate-none-stray
+    none-stray-requires
     slice-aggregate-first-stray
     first-stray-requires
     returns-3

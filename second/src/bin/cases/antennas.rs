@@ -1,8 +1,10 @@
-//! Two antennas: STTD of digits and of AICH values, P5 and P6, and the P-CCPCH frame.
+//! Two antennas: STTD of digits and of AICH values, P5 and P6, the DPCH slot, and the P-CCPCH frame.
 
 use crate::case::{Case, Line};
 use crate::runs::{self, FAR, MARK, damaged, far, left, marks, numbers, repeated};
-use second::rules::{pccpch, sttd};
+use second::rules::antenna::Given;
+use second::rules::dpch::Fields;
+use second::rules::{antenna, dpch, pccpch, sttd};
 
 fn digits(name: &str, input: &[u8], n_out: usize) -> Case {
     let outcome = sttd::digits(input, n_out);
@@ -42,6 +44,93 @@ fn encoding_values() -> Vec<Case> {
     other[31] = -17;
     vec![values("done", &input), values("refusal 11", &other), values("refusal 3", &[17, 0, 0, 0])]
 }
+
+// DPCH slots
+
+/// The numbers are format, slot, antenna and TPC command.
+fn slot_map(name: &str, numbers: [usize; 4], tfci: &[u8], data: &[u8], n_out: usize) -> Case {
+    let outcome = antenna::map(&Given { numbers, data, tfci, n_out });
+    let [format, slot, number, tpc] = numbers;
+    let line = Line::new(name, "antenna map").key("format", format).key("slot", slot).key("antenna", number);
+    let line = line.key("TPC", tpc).key("TFCI", runs::digits(tfci)).key("data", runs::digits(data));
+    line.lent("out", marks(n_out), runs::digits(&left(&outcome, n_out, MARK))).answered(&outcome)
+}
+
+fn slot_read(name: &str, numbers: [usize; 2], streams: [&[u8]; 2], n_data: usize, n_tfci: usize) -> Case {
+    let ([format, slot], [first, second]) = (numbers, streams);
+    let outcome = antenna::read(format, slot, first, second, n_data, n_tfci);
+    let untouched = Fields { tpc: 0, data: vec![MARK; n_data], tfci: vec![MARK; n_tfci] };
+    let fields = outcome.clone().unwrap_or(untouched);
+    let line = Line::new(name, "antennas read").key("format", format).key("slot", slot);
+    let line = line.key("first", runs::digits(first)).key("second", runs::digits(second));
+    let line = line.gives("TPC", fields.tpc).lent("TFCI", marks(n_tfci), runs::digits(&fields.tfci));
+    line.lent("data", marks(n_data), runs::digits(&fields.data)).answered(&outcome)
+}
+
+/// A slot of some fields, read back with the digit at a place of either stream turned to another.
+fn slot_damaged(name: &str, format: usize, place1: usize, place2: usize, digit: u8) -> Case {
+    let lengths = dpch::format(format).expect("formats 0 to 16");
+    let (data, tfci) = (repeated(&[1, 0, 2, 0, 1], lengths.data()), repeated(&[1, 0], lengths.tfci));
+    let first = dpch::mapped(&lengths, 6, 1, &data, &tfci);
+    let second = antenna::second(format, 6, &first);
+    let streams = [damaged(&first, place1, digit), damaged(&second, place2, digit)];
+    slot_read(name, [format, 6], [&streams[0], &streams[1]], lengths.data(), lengths.tfci)
+}
+
+fn mapping_slots() -> Vec<Case> {
+    let sixteen = repeated(&[0, 1, 1, 2, 0], 16);
+    vec![
+        slot_map("other", [0, 0, 0, 0], &[], &[1, 0, 1, 0], 10),
+        slot_map("other", [0, 0, 1, 0], &[], &[1, 0, 1, 0], 10),
+        // TPC is not encoded at spreading factor 512
+        slot_map("slip", [1, 1, 1, 1], &[0, 1], &[1, 0], 10),
+        slot_map("slip", [1, 14, 1, 1], &[2, 2], &[2, 1], 10),
+        // the two pilot bits come before the last two data digits
+        slot_map("other", [2, 1, 0, 0], &[], &sixteen, 20),
+        slot_map("other", [2, 1, 1, 0], &[], &sixteen, 20),
+        slot_map("slip", [3, 8, 1, 1], &[2, 2], &repeated(&[1, 0, 0], 14), 20),
+        // blocks that start afresh at each field give another slot
+        slot_map("slip", [4, 5, 1, 1], &[], &repeated(&[1, 0, 0], 14), 20),
+        slot_map("slip", [7, 3, 1, 0], &[1, 0], &repeated(&[1, 2, 0], 8), 20),
+        slot_map("done", [9, 4, 1, 1], &[0, 1], &repeated(&[1, 1, 0, 2, 0], 32), 40),
+        slot_map("done", [12, 9, 1, 0], &[2; 8], &repeated(&[0, 1, 1], 60), 80),
+        slot_map("refusal 1", [17, 15, 2, 2], &[3], &[3], 9),
+        slot_map("refusal 2", [1, 15, 2, 2], &[3], &[3], 9),
+        slot_map("refusal 11", [1, 14, 2, 2], &[3], &[3], 9),
+        slot_map("refusal 3", [1, 14, 1, 2], &[3], &[3], 9),
+        slot_map("refusal 3", [1, 14, 1, 2], &[3], &[3, 3], 9),
+        slot_map("refusal 3", [1, 14, 1, 2], &[3, 3], &[3, 3], 9),
+        slot_map("refusal 5", [1, 14, 1, 2], &[3, 3], &[3, 3], 10),
+        slot_map("refusal 4", [1, 14, 1, 1], &[2, 3], &[3, 3], 10),
+        slot_map("refusal 6", [1, 14, 1, 1], &[0, 2], &[3, 3], 10),
+        slot_map("refusal 4", [1, 14, 1, 1], &[0, 1], &[2, 3], 10),
+    ]
+}
+
+fn reading_slots() -> Vec<Case> {
+    let far = usize::MAX;
+    vec![
+        slot_read("other", [0, 0], [&[0, 0, 1, 0, 1, 0, 1, 1, 1, 1], &[0, 0, 0, 0, 1, 1, 0, 1, 1, 0]], 4, 0),
+        slot_damaged("done", 3, far, far, 0),
+        slot_damaged("done", 10, far, far, 0),
+        slot_damaged("refusal 4", 5, 19, 3, 3),
+        slot_damaged("refusal 4", 5, far, 3, 3),
+        slot_damaged("refusal 5", 5, 3, 0, 2),
+        slot_damaged("refusal 6", 5, 5, 0, 2),
+        slot_damaged("refusal 7", 5, 17, 0, 2),
+        slot_damaged("refusal 9", 5, far, 0, 2),
+        slot_damaged("refusal 9", 2, far, 19, 2),
+        slot_damaged("refusal 9", 0, far, 1, 0),
+        slot_read("refusal 1", [17, 15], [&[3], &[3]], 1, 1),
+        slot_read("refusal 2", [1, 15], [&[3], &[3]], 1, 1),
+        slot_read("refusal 3", [1, 1], [&[3], &[3]], 1, 1),
+        slot_read("refusal 3", [1, 1], [&[3; 10], &[3]], 1, 1),
+        slot_read("refusal 3", [1, 1], [&[3; 10], &[3; 10]], 1, 1),
+        slot_read("refusal 3", [1, 1], [&[3; 10], &[3; 10]], 2, 1),
+    ]
+}
+
+// P-CCPCH frames
 
 /// Seven digits over and over, so that the blocks of four differ.
 fn data_of_sevens() -> Vec<u8> {
@@ -90,5 +179,5 @@ fn broadcasting() -> Vec<Case> {
 }
 
 pub fn all() -> Vec<Case> {
-    [encoding(), encoding_values(), broadcasting()].concat()
+    [encoding(), encoding_values(), mapping_slots(), reading_slots(), broadcasting()].concat()
 }

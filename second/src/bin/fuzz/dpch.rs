@@ -5,6 +5,7 @@ use crate::draw::Draw;
 use second::answer::Answer;
 use second::fields::{lengths_of, random_tfci};
 use second::random::Random;
+use second::rules::antenna::{self, Given};
 use second::rules::dpch::{self, Format};
 use second::rules::frame::{self, SLOTS};
 
@@ -65,6 +66,47 @@ fn some_index(random: &mut Random, lengths: &Format) -> usize {
         _ if control < lengths.pilot => lengths.pilot_at() + control,
         _ => lengths.tpc_at() + control - lengths.pilot,
     }
+}
+
+// Slots on two antennas
+
+pub fn slot_map_antenna(draw: &mut Draw) -> Case {
+    let good = some_format(draw);
+    let lengths = lengths_of(good);
+    let (slot, antenna, tpc) = (draw.random.below(15), draw.random.below(2), draw.random.below(2));
+    let numbers = [good, slot, antenna, tpc].map(|number| draw.number(number));
+    let data = draw.random.digits(lengths.data(), 3);
+    let tfci = random_tfci(&mut draw.random, &lengths);
+    let (data, tfci) = (draw.digits(data), draw.digits(tfci));
+    let (data, tfci, out) = (draw.lend(data), draw.lend(tfci), draw.room(lengths.slot));
+    let outcome = antenna::map(&Given { numbers, data: &data.run, tfci: &tfci.run, n_out: out.length });
+    let after = outcome.as_deref().ok();
+    Case::of(&numbers).held(&data).held(&tfci).room(&out, after).answers(Answer::of(&outcome))
+}
+
+pub fn slot_read_antennas(draw: &mut Draw) -> Case {
+    let good = some_format(draw);
+    let lengths = lengths_of(good);
+    let slot = draw.random.below(15);
+    let first = good_slot(draw, &lengths, slot);
+    let second = antenna::second(good, slot, &first);
+    let first = draw.digits_at(first, |random| some_index(random, &lengths));
+    let second = draw.digits(second);
+    let (number, slot) = (draw.number(good), draw.number(slot));
+    let (first, second) = (draw.lend(first), draw.lend(second));
+    let (data, tfci) = (draw.room(lengths.data()), draw.room(lengths.tfci));
+    let outcome = antenna::read(number, slot, &first.run, &second.run, data.length, tfci.length);
+    let answer = match &outcome {
+        Ok(fields) => Answer::done(fields.tpc.into()),
+        Err(refusal) => Answer::refused(*refusal),
+    };
+    let fields = outcome.as_ref().ok();
+    Case::of(&[number, slot])
+        .held(&first)
+        .held(&second)
+        .room(&data, fields.map(|fields| &fields.data[..]))
+        .room(&tfci, fields.map(|fields| &fields.tfci[..]))
+        .answers(answer)
 }
 
 // Frames

@@ -27,12 +27,14 @@ use std::process::ExitCode;
 type Call = (&'static [u16], fn(&mut Draw) -> Case);
 
 /// In the order of `include/slt.h`, which is that of the table in `fuzz/calls.c`.
-const CALLS: [Call; 30] = [
+const CALLS: [Call; 32] = [
     (&[0, 8, 11], calls::pich_q),
     (&[0, 3, 4, 8], calls::pich_map),
     (&[0, 3, 4, 8, 9], calls::pich_read),
     (&[0, 1, 2, 3, 4, 5, 6], dpch::slot_map),
     (&[0, 1, 2, 3, 4, 5, 6, 7], dpch::slot_read),
+    (&[0, 1, 2, 3, 4, 5, 6, 11], dpch::slot_map_antenna),
+    (&[0, 1, 2, 3, 4, 5, 6, 7, 9], dpch::slot_read_antennas),
     (&[0, 1, 3, 4, 5, 6], dpch::frame_map),
     (&[0, 1, 3, 4, 5, 6, 7], dpch::frame_read),
     (&[0, 1, 3, 4], uplink::dpdch_slot),

@@ -15,6 +15,9 @@ returns c =
     let none : c .before .args .indicator ≡ pos 0 = same-bits {w = w32} (c .before .fits .indicator) (search needs) (c .if1 .taken) in
     rw (eq-eqZ _ _ none) (sym (or-true (offers (c .before .args .available) (c .before .args .s))))
 
+cast-result : tie.Need-cast-result
+cast-result c = search needs
+
 shr-result : tie.Need-shr-result
 shr-result c = search needs
 
@@ -23,4 +26,4 @@ unfolding offers
 returns-2 c = rw (other-bits w32 (c .before .args .indicator) (pos 0) (c .if1 .left)) (sym (or-false _))
 
 pub allowed-spec : {M : Type 1} → statement M
-allowed-spec = tie.close (tie.spec returns shr-result returns-2)
+allowed-spec = tie.close (tie.spec returns cast-result shr-result returns-2)

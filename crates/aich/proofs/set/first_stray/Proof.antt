@@ -14,8 +14,6 @@ use mir.Syntax.{w32}
 use mir.Val.{toZ, ofZ, hbits}
 use mir.Facts.{toZ-ofZ}
 use Rattle.whole.specs.Equal.{eqZ}
-use Rattle.run.proofs.First.{first-none}
-use Rattle.run.proofs.Passing.{all-every}
 use Rattle.run.proofs.Backward.{Backward, back-start, back-good, back-bad, back-end}
 use Rattle.aich.specs.Rule.{offers, allows}
 use Rattle.aich.proofs.set.first_stray.Statement.{statement}
@@ -59,23 +57,17 @@ loop-less c = omega arith
 loop-again : tie.Need-loop-again Inv-loop μ-loop
 loop-again c =
     let head = c .before .before .before .before in
-    let x = head .before .before .before .args .indicators .now in
+    let x = head .before .args .indicators .now in
     let s = 15 - head .loop .i in
     let f = c .before .before .allowed-arg .given in
     let e = c .before .allowed .ensures in
     ⊎-elim
     (λ w. rw (w .1) (back-bad s (head .loop .inv) (omega arith) (told _ x s f e (not-true _ (w .0 .taken)))))
     (λ w. rw (w .1) (back-good s (head .loop .inv) (omega arith) (told _ x s f e (not-false _ (w .0 .left)))))
-    (c .if2 .came)
-
-none-stray-requires : tie.Need-none-stray-requires Inv-loop μ-loop
-none-stray-requires c κs = c .pre
+    (c .if1 .came)
 
 returns : tie.Need-returns Inv-loop μ-loop
-returns c = sym (first-none _ 16 (all-every 16 _ (sym (c .before .none-stray .ensures) ∙ c .if1 .taken)))
-
-returns-2 : tie.Need-returns-2 Inv-loop μ-loop
-returns-2 c = back-end (c .before .loop .inv) (c .loop-test .left)
+returns c = back-end (c .before .loop .inv) (c .loop-test .left)
 
 pub first-stray-spec : {M : Type 1} → statement M
 first-stray-spec =
@@ -83,8 +75,6 @@ first-stray-spec =
     (tie.spec
     Inv-loop
     μ-loop
-    none-stray-requires
-    returns
     loop-holds
     sub-s
     mul-allowed
@@ -93,4 +83,4 @@ first-stray-spec =
     add-i
     loop-less
     loop-again
-    returns-2)
+    returns)

@@ -9,7 +9,7 @@ use borrow.Author.Needs.{needs}
 use borrow.Author.Tests.{ne-eqb, eqb-false}
 use lib.Bits.{bitOr, or-zero-r, or-add-and, and-le-l}
 use lib.Dec.{eqb}
-use lib.ListN.{getD}
+use lib.ListN.{length, getD}
 use lib.IntN.{ℤ, pos}
 use lib.Signed.{mag}
 use mir.Syntax.{w32}
@@ -54,10 +54,19 @@ module _ (available : ℕ) (x : List ℤ) (s a : ℕ) (r : ℤ) (f : mag (getD x
           rw (ne-eqb (bitOr a (ofZ w32 r)) 0 some) (pass-bad inv h (rw (o, n)))
 
 abbrev Inv-loop : tie.InvT-loop
-Inv-loop available indicators strays₀ s₀ strays s = Passing (allows available indicators) 16 s (eqb strays 0)
+Inv-loop available indicators set strays₀ s₀ strays s = Passing (allows available indicators) 16 s (eqb strays 0)
 
 abbrev μ-loop : tie.MeasureT-loop
-μ-loop available indicators strays₀ s₀ strays s = 16 - s
+μ-loop available indicators set strays₀ s₀ strays s = 16 - s
+
+sub-set : tie.Need-sub-set Inv-loop μ-loop
+sub-set c = search needs
+
+cast-set : tie.Need-cast-set Inv-loop μ-loop
+cast-set c = search needs
+
+add-set : tie.Need-add-set Inv-loop μ-loop
+add-set c = search needs
 
 loop-holds : tie.Need-loop-holds Inv-loop μ-loop
 loop-holds c = pass-start
@@ -80,8 +89,10 @@ loop-less c = search needs
 loop-again : tie.Need-loop-again Inv-loop μ-loop
 loop-again c =
     let head = c .before .before .before in
-    let x = head .before .args .indicators .now in
-    turn _ x _ (head .loop .strays) _ (c .before .stray-arg .given) (c .stray .ensures) (c .before .before .loop-test .taken) (head .loop .inv)
+    let a = head .before .args in
+    let x = a .indicators .now in
+    let same : a .available + (length x - 16) ≡ a .available = omega (arith, head .before .pre) in
+    turn _ x _ (head .loop .strays) _ (c .before .stray-arg .given) (rw same at (c .stray .ensures)) (c .before .before .loop-test .taken) (head .loop .inv)
 
 returns : tie.Need-returns Inv-loop μ-loop
 returns c = pass-end (c .before .loop .inv) (c .loop-test .left)
@@ -92,6 +103,9 @@ none-stray-spec =
     (tie.spec
     Inv-loop
     μ-loop
+    sub-set
+    cast-set
+    add-set
     loop-holds
     mul-stray
     shared-slice-copy-out-stray
