@@ -67,6 +67,14 @@ count-some n k f h e =
     let grows = count-grows (k + 1) n f (omega arith) in
     omega arith
 
+-- where none is counted, none passes
+pub none-counted : (n : ℕ) (f : ℕ → Bool) → count n f ≡ 0 → (k : ℕ) → k < n → f k ≡ false
+none-counted n f none k h = side (f k) refl
+  where
+    side : (b : Bool) → f k ≡ b → b ≡ false
+    side true e = let some = count-some n k f h e in absurd (let z : ⊥ = omega arith in z)
+    side false e = refl
+
 -- tests that agree but at t, where the first fails
 pub count-point : (n t : ℕ) (f g : ℕ → Bool) → t < n → f t ≡ false → ((k : ℕ) → k < n → (k ≡ t → ⊥) → f k ≡ g k) → count n g ≡ count n f + cond (g t) 1 0
 unfolding count

@@ -10,20 +10,23 @@ use native.Mathlib.Omega.{arith}
 use borrow.Author.Tests.{ltb-true, ltb-false, le-ltb, not-true, not-false}
 use lib.Dec.{eqb, ltb, lit<}
 use lib.ListN.{length}
-use lib.IntN.{ℤ, pos, negsuc}
+use lib.IntN.{ℤ, pos, negsuc, _*ℤ_, zero-*ℤ}
 use Rattle.run.specs.First.{firstBad}
 use Rattle.run.specs.Verdicts.{done, Narrow}
 use Rattle.run.proofs.First.{first-fails, none-first}
 use Rattle.run.proofs.Chain.{check-narrow, unless-narrow, leaves-done, leaves-small, number-0, one-outcome}
+use Rattle.run.proofs.Table.{tab-same}
 use Rattle.whole.specs.Equal.{eqZ}
+use Rattle.whole.specs.Sum.{sum}
 use Rattle.whole.proofs.Equal.{eqZ-true, eq-eqZ}
-use Rattle.aich.specs.Rule.{offers, valuesOf}
+use Rattle.whole.proofs.Sum.{sum-same}
+use Rattle.aich.specs.Rule.{offers, valueAt, valuesOf}
 use Rattle.desk.specs.declared.Desk.{Desk}
 use Rattle.desk.specs.declared.Served.{Served}
 use Rattle.desk.specs.Rule.{candidate, placeOf, ahead, served, indicatorOf, indicatorsOf, lastAfter, freshLast, toAich, toMessage}
 use Rattle.desk.specs.Outcome.{serveVerdict, Serve, timingVerdict}
-use Rattle.desk.specs.Exact.{Gets, gotOne, SlotFair, DeskMoves, Circle, MapperTakes, deskAt, turns, ServedIn, Fairness, Tight, RowIs, CallsRow, DeskOnce, Packs}
-use Rattle.desk.proofs.Count.{count-same, count-some}
+use Rattle.desk.specs.Exact.{Gets, gotOne, SlotFair, DeskMoves, NobodyServed, Circle, MapperTakes, deskAt, turns, ServedIn, Fairness, Tight, RowIs, CallsRow, DeskOnce, Packs}
+use Rattle.desk.proofs.Count.{count-same, count-some, none-counted}
 use Rattle.desk.proofs.Circle.{place-at, at-place}
 use Rattle.desk.proofs.Serving.{served-all, served-before, after-small, after-nobody, after-somebody, highest-served, highest-last}
 use Rattle.desk.proofs.Slot.{takes, indicator-at, silent, map-available-takes}
@@ -90,6 +93,30 @@ desk-moves asks last n fits =
           let is = one-served asks last n s h e in
           highest-last asks last n fits (after-somebody asks last n fits (count-some 16 s _ h is)) s h is;
       signature = small;
+    }
+
+-- where nobody asks every value is a sum of zeros
+zeros : sum 16 (λ (s : ℕ). pos 0) ≡ pos 0
+unfolding sum
+zeros = refl
+
+times-none : (z w : ℤ) → z ≡ pos 0 → z *ℤ w ≡ pos 0
+times-none z w e = ap (λ (x : ℤ). x *ℤ w) e ∙ zero-*ℤ w
+
+silent-value : (asks : ℕ → Bool) (last n : ℕ) → ((s : ℕ) → s < 16 → asks s ≡ false) → (j : ℕ) → valueAt (indicatorsOf asks last n) j ≡ pos 0
+unfolding valueAt
+silent-value asks last n silence j =
+    sum-same 16 _ (λ (s : ℕ). pos 0) (λ s h. times-none _ _ (silent asks last n s h (silence s h))) ∙ zeros
+
+pub nobody-served : NobodyServed
+unfolding valuesOf
+nobody-served asks last n fits some none =
+    let served-none = sym (count-same 16 (gotOne asks last n) (served asks last n) (got-served asks last n)) ∙ none in
+    let is = served-all asks last n fits in
+    let silence = none-counted 16 asks (omega arith) in
+    record {
+      nobody-asks = silence;
+      all-0 = tab-same 32 _ _ (λ j h. silent-value asks last n silence j);
     }
 
 pub circle : Circle

@@ -8,6 +8,7 @@ use mathlib.Core.Logic.{_⊎_}
 use lib.Dec.{ltb}
 use lib.ListN.{length, getD}
 use lib.IntN.{ℤ, pos, negsuc}
+use Rattle.run.specs.Table.{tab}
 use Rattle.run.specs.Verdicts.{done, leaves, Narrow}
 use Rattle.whole.specs.Equal.{eqZ}
 use Rattle.aich.specs.Rule.{offers, valuesOf}
@@ -47,6 +48,14 @@ pub record Moved (asks : ℕ → Bool) (last n : ℕ) : Type 0 where
 
 abbrev pub DeskMoves : Type 0
 DeskMoves = (asks : ℕ → Bool) (last n : ℕ) → last ≤ 15 → Moved asks last n
+
+-- a slot that serves nobody is one in which nobody asks, and its values are all 0
+pub record Quiet (asks : ℕ → Bool) (last n : ℕ) : Type 0 where
+  pub nobody-asks : (s : ℕ) → s < 16 → asks s ≡ false
+  pub all-0 : valuesOf (indicatorsOf asks last n) ≡ tab 32 (λ (j : ℕ). pos 0)
+
+abbrev pub NobodyServed : Type 0
+NobodyServed = (asks : ℕ → Bool) (last n : ℕ) → last ≤ 15 → 1 ≤ n → count 16 (gotOne asks last n) ≡ 0 → Quiet asks last n
 
 -- places are a circle of the sixteen signatures, and a fresh desk has them in order from 0
 pub record Circle : Type 0 where
