@@ -134,7 +134,7 @@ module _ (desk : Desk) (heard available n : ℕ) (values : List ℤ) where
   module _ (h : verdict .number ≡ 0) {after q : ℕ} {marks written : List ℤ} {answer : Verdict} where
     pub serve-done : after ≡ lastAfter (offers (bitAnd heard available)) (desk .last) n → q ≡ placeOf (desk .last) after
         → marks ≡ marksOf (offers (bitAnd heard available)) (desk .last) q → Map marks values answer written
-        → Serve desk heard available n values (record { verdict = verdict; desk = record { last = after } }) written
+        → Serve desk heard available n values (record { verdict = done; desk = record { last = after } }) written
     serve-done e p m mapped =
         let t = taken (desk .last) n (length values) h in
         let asks = candidate heard available in
@@ -144,7 +144,7 @@ module _ (desk : Desk) (heard available n : ℕ) (values : List ℤ) where
         in
         let map-done : mapVerdict marks (length values) .number ≡ 0 = rw (is, t .values-ok) (number-0 (map-takes asks (desk .last) n)) in
         record {
-          verdict-is = refl;
+          verdict-is = sym (takes t);
           desk-is = moved ∙ sym (leaves-done _ _ _ h);
           values-is = mapped .values-is ∙ leaves-done _ _ _ map-done ∙ ap valuesOf is ∙ sym (leaves-done _ _ _ h);
         }

@@ -110,7 +110,7 @@ fn marks(candidates: u32, last: u32, q: u32) -> [i32; 16]
     indicators
 }
 
-// One access slot: the values of the indicators and the desk afterwards, or the refusal, and both as they were.
+// One access slot: the values of the indicators and the desk afterwards, or the refusal, and both as they were. Done is written out, so that it need not wait for a place.
 pub fn serve(desk: Desk, heard: u16, available: u16, n: usize, values: &mut [i32]) -> Served
     ensures { λ r. ⌜ Serve desk heard available n (now (values .entry)) r (now (values .exit)) ⌝ }
 {
@@ -125,8 +125,12 @@ pub fn serve(desk: Desk, heard: u16, available: u16, n: usize, values: &mut [i32
     let indicators = marks(candidates as u32, last as u32, q as u32);
     aich::map(&indicators, values);
     let moved = Desk { last: after };
+    let done = Verdict {
+        number: 0,
+        place: 0,
+    };
     Served {
-        verdict,
+        verdict: done,
         desk: moved,
     }
 }

@@ -72,7 +72,7 @@ returns-2 c =
     let marked = c .before .before .before .before in
     let past = marked .before .before in
     let e = past .before .before .serve-verdict .ensures in
-    rw e (serve-done _ _ _ _ _ (rw e at (past .if1 .left)) (marked .before .last-served .ensures) refl (marked .marks .ensures) (c .before .map .ensures))
+    serve-done _ _ _ _ _ (rw e at (past .if1 .left)) (marked .before .last-served .ensures) refl (marked .marks .ensures) (c .before .map .ensures)
 
 pub serve-spec : {M : Type 1} → statement M
 serve-spec =
