@@ -15,6 +15,7 @@ int main(int n_arguments, char **arguments) {
     bench_hspdsch();
     bench_sttd();
     bench_aich();
+    bench_desk();
     bench_sample();
     if (n_arguments == 4) bench_slotline(arguments[1], arguments[2], arguments[3]);
     return 0;

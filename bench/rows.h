@@ -13,6 +13,7 @@ void bench_pccpch(void);
 void bench_hspdsch(void);
 void bench_sttd(void);
 void bench_aich(void);
+void bench_desk(void);
 void bench_sample(void);
 
 /* The rows of the program, given the paths of slotline, of the tight and of the plain C program. */

@@ -62,6 +62,10 @@
                                         int32_t *values, size_t n_values);                                                      \
     uint64_t whose##_aich_read_available(uint16_t available, const int32_t *values, size_t n_values,                            \
                                          int32_t *indicators, size_t n_indicators);                                             \
+    uint64_t whose##_desk_serve(size_t *last, uint16_t heard, uint16_t available, size_t n, int32_t *values,                    \
+                                size_t n_values);                                                                               \
+    uint64_t whose##_desk_to_aich(size_t timing);                                                                               \
+    uint64_t whose##_desk_to_message(size_t timing);                                                                            \
     uint64_t whose##_aich_combine(int64_t h1_re, int64_t h1_im, int64_t h2_re, int64_t h2_im, const int32_t *received,          \
                                   size_t n_received, int64_t *results, size_t n_results);                                       \
     uint64_t whose##_aich_combine_by_terms(int64_t h1_re, int64_t h1_im, int64_t h2_re, int64_t h2_im, const int32_t *received, \

@@ -194,6 +194,28 @@ static int uplink(void) {
     return 0;
 }
 
+/* The three access slots of docs/DESK.md, the desk with them, and when a message may follow its preamble. */
+static int random_access(void) {
+    const uint16_t heard[3] = {0x4224, 0x4204, 0x0004}, available[3] = {0xffff, 0xffff, 0xfffb};
+    size_t last = SLT_DESK_FRESH;
+    int32_t values[32];
+
+    for (size_t i = 0; i < 3; i++) {
+        uint64_t served = slt_desk_serve(&last, heard[i], available[i], 2, values, 32);
+        print_answer("slt_desk_serve", served);
+        if (SLT_NUMBER(served) != SLT_DONE) {
+            return 1;
+        }
+        printf("desk %zu, values 10 to 13 %" PRId32 " %" PRId32 " %" PRId32 " %" PRId32 "\n", last, values[10], values[11],
+               values[12], values[13]);
+    }
+    print_answer("slt_desk_serve for 17", slt_desk_serve(&last, heard[0], available[0], 17, values, 32));
+    printf("desk %zu\n", last);
+    print_answer("slt_desk_to_aich(0)", slt_desk_to_aich(0));
+    print_answer("slt_desk_to_message(1)", slt_desk_to_message(1));
+    return 0;
+}
+
 int main(void) {
-    return paging() || slot() || two_antennas() || compressed() || high_speed() || uplink();
+    return paging() || slot() || two_antennas() || compressed() || high_speed() || uplink() || random_access();
 }

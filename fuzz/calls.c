@@ -161,6 +161,21 @@ static void aich_read_available(struct test *t) {
     t->got = slt_aich_read_available((uint16_t)t->given[0], values(t, 0), n(t, 0), values(t, 1), n(t, 1));
 }
 
+/* The run of the desk is told as it is to be afterwards: what it holds before the call is the first number. */
+static void desk_serve(struct test *t) {
+    size_t *last = (size_t *)(void *)t->run[0].lent;
+    *last = t->given[0];
+    t->got = slt_desk_serve(last, (uint16_t)t->given[1], (uint16_t)t->given[2], t->given[3], values(t, 1), n(t, 1));
+}
+
+static void desk_to_aich(struct test *t) {
+    t->got = slt_desk_to_aich(t->given[0]);
+}
+
+static void desk_to_message(struct test *t) {
+    t->got = slt_desk_to_message(t->given[0]);
+}
+
 static void aich_combine(struct test *t) {
     int64_t *results = (int64_t *)(void *)t->run[1].lent;
     t->got = slt_aich_combine(whole(t, 0), whole(t, 1), whole(t, 2), whole(t, 3), values(t, 0), n(t, 0), results, n(t, 1));
@@ -208,6 +223,9 @@ const struct call calls[] = {
     {"slt_aich_read", 0, "44", aich_read},
     {"slt_aich_map_available", 1, "44", aich_map_available},
     {"slt_aich_read_available", 1, "44", aich_read_available},
+    {"slt_desk_serve", 4, "84", desk_serve},
+    {"slt_desk_to_aich", 1, "", desk_to_aich},
+    {"slt_desk_to_message", 1, "", desk_to_message},
     {"slt_aich_combine", 4, "48", aich_combine},
     {"slt_sample_off", 3, "", sample_off},
     {"slt_sample_shared", 4, "", sample_shared},

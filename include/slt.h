@@ -12,10 +12,11 @@
  *   - NULL is allowed only with length 0;
  *   - a run that is written does not overlap any other run of the call;
  *   - nobody else writes a run during the call.
+ * What is owed for the one pointer without a length, last of slt_desk_serve, is said there.
  *
  * What a caller gets: for all contents, lengths and numbers the call ends without undefined behaviour;
  * a refused call writes to no run. A digit is 0, 1, or 2 for DTX; any other byte is refused, never misread.
- * The calls keep no state and may be made from any thread.
+ * The calls keep no state (a desk is the caller's) and may be made from any thread.
  */
 #ifndef SLT_H
 #define SLT_H
@@ -161,6 +162,20 @@ uint64_t slt_aich_map_available(uint16_t available, const int32_t *indicators, s
                                 size_t n_values);
 uint64_t slt_aich_read_available(uint16_t available, const int32_t *values, size_t n_values, int32_t *indicators,
                                  size_t n_indicators);
+
+/* The random access desk (TS 25.211, 5.3.3.7 and 7.3): who is answered in an access slot, and how many chips later.
+ *
+ * A desk is one number, the signature that was served last; a fresh one is SLT_DESK_FRESH. Both sets have bit s for signature s.
+ * Signatures that are heard and available get +1, up to n of them (1 to 16) in circular order from just after *last, and -1 behind
+ * those; all others get 0. The 32 values are those of these indicators, all 0 where nobody is served. Where somebody is, *last
+ * becomes the last one; else, and where the call is refused, it stays. last has no length: it is not NULL, is aligned for a
+ * size_t, points at one that lies apart from the values, and nobody else reads or writes it during the call. */
+#define SLT_DESK_FRESH 15u
+uint64_t slt_desk_serve(size_t *last, uint16_t heard, uint16_t available, size_t n, int32_t *values, size_t n_values);
+
+/* Chips from a preamble to its indicator and to the message, as the value, for AICH_Transmission_Timing 0 and 1. */
+uint64_t slt_desk_to_aich(size_t timing);
+uint64_t slt_desk_to_message(size_t timing);
 
 /* The AICH of two antennas combined: gain parts -4096 to 4096, 32 received parts -1048576 to 1048576 (real and imaginary in turn),
  * one result for each of the 16 signatures. */

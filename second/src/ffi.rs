@@ -374,6 +374,29 @@ pub fn aich_read_available(available: u16, values: &mut Lent<i32>, indicators: &
     })
 }
 
+// Random access desk
+
+unsafe extern "C" {
+    fn slt_desk_serve(last: *mut usize, heard: u16, available: u16, n: usize, values: *mut i32, n_values: usize) -> u64;
+    fn slt_desk_to_aich(timing: usize) -> u64;
+    fn slt_desk_to_message(timing: usize) -> u64;
+}
+
+/// The desk is a run of one number.
+pub fn desk_serve(last: &mut Lent<usize>, heard: u16, available: u16, n: usize, values: &mut Lent<i32>) -> Answer {
+    assert_eq!(last.len(), 1, "a desk is one number");
+    let n_values = values.len();
+    Answer::unpack(unsafe { slt_desk_serve(last.pointer(), heard, available, n, values.pointer(), n_values) })
+}
+
+pub fn desk_to_aich(timing: usize) -> Answer {
+    Answer::unpack(unsafe { slt_desk_to_aich(timing) })
+}
+
+pub fn desk_to_message(timing: usize) -> Answer {
+    Answer::unpack(unsafe { slt_desk_to_message(timing) })
+}
+
 // AICH combiner
 
 unsafe extern "C" {

@@ -41,6 +41,13 @@ impl Element for i64 {
     }
 }
 
+impl Element for usize {
+    /// Far beyond every signature.
+    fn pattern(salt: u64, index: usize) -> usize {
+        0x5a5a_5a00 | five_bits(salt, index) as usize
+    }
+}
+
 pub struct Lent<T> {
     /// Guard, run, guard.
     store: Vec<T>,

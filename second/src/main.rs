@@ -38,6 +38,7 @@ const CHANNELS: &[Channel] = &[
     ("hspdsch", compare::hspdsch::all),
     ("aich", compare::aich::all),
     ("aich_available", compare::aich_available::all),
+    ("desk", compare::desk::all),
     ("combiner", compare::combiner::all),
     ("sample", compare::sample::all),
 ];

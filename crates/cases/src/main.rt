@@ -4,6 +4,7 @@
 //
 // The names say where a case is from: P1 to P12 are the marked examples, `other` the other examples, `refusal N` a row of the table of
 // numbers, `slip` a slip that has been seen, `done` any other call that is done.
+mod access;
 mod answer;
 mod digits;
 mod hspdsch;
@@ -23,6 +24,9 @@ fn ask(call: usize, line: &[u8]) {
         question::AICH_COMBINE => values::lend_results(line),
         question::SAMPLE => samples::take(line),
         question::HSPDSCH_MAP..=question::HSPDSCH_READ => hspdsch::lend(call, line),
+        question::DESK_SERVE => access::serve(line),
+        question::DESK_TO_AICH => access::to_aich(line),
+        question::DESK_TO_MESSAGE => access::to_message(line),
         _ => answer::text(b" -> no such call"),
     }
 }

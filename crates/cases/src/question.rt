@@ -75,7 +75,13 @@ pub(crate) const HSPDSCH_MAP: usize = 30;
 
 pub(crate) const HSPDSCH_READ: usize = 31;
 
-pub(crate) const NONE: usize = 32;
+pub(crate) const DESK_SERVE: usize = 32;
+
+pub(crate) const DESK_TO_AICH: usize = 33;
+
+pub(crate) const DESK_TO_MESSAGE: usize = 34;
+
+pub(crate) const NONE: usize = 35;
 
 // How many digits and how many whole numbers a run has at most.
 pub(crate) const DIGITS: usize = 300;
@@ -134,7 +140,7 @@ pub(crate) fn call(line: &[u8]) -> usize {
     let mut k = 0;
     while k < NONE {
         let name = piece(
-            b" slot map , antenna map , frame map , P-CCPCH read , PICH map , PICH read , DPDCH map , DPDCH read , DPDCH frame map , DPDCH frame read , DPCCH map , DPCCH frame map , compressed map , STTD digits , slot read , antennas read , P-CCPCH map , DPCCH read , frame read , DPCCH frame read , compressed read , PICH q , AICH map , AICH read , AICH available map , AICH available read , STTD values , AICH combine , sample , job , HS-PDSCH map , HS-PDSCH read ",
+            b" slot map , antenna map , frame map , P-CCPCH read , PICH map , PICH read , DPDCH map , DPDCH read , DPDCH frame map , DPDCH frame read , DPCCH map , DPCCH frame map , compressed map , STTD digits , slot read , antennas read , P-CCPCH map , DPCCH read , frame read , DPCCH frame read , compressed read , PICH q , AICH map , AICH read , AICH available map , AICH available read , STTD values , AICH combine , sample , job , HS-PDSCH map , HS-PDSCH read , desk serve , desk to AICH , desk to message ",
             b',',
             k,
         );

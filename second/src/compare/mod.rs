@@ -7,6 +7,7 @@ pub mod aich_available;
 pub mod antenna;
 pub mod combiner;
 pub mod compressed;
+pub mod desk;
 pub mod dpcch;
 pub mod dpch;
 pub mod dpdch;

@@ -8,6 +8,7 @@ pub mod aich;
 pub mod antenna;
 pub mod combiner;
 pub mod compressed;
+pub mod desk;
 pub mod dpcch;
 pub mod dpch;
 pub mod dpdch;

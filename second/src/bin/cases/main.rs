@@ -12,6 +12,7 @@ mod access;
 mod antennas;
 mod case;
 mod compressed;
+mod desk;
 mod frames;
 mod hspdsch;
 mod jobs;
@@ -28,7 +29,7 @@ fn main() {
         Some(other) => panic!("{other} is not --questions"),
     };
     let dedicated = [slots::all(), frames::all(), compressed::all(), uplink::all()];
-    let others = [antennas::all(), paging::all(), access::all(), samples::all(), jobs::all(), hspdsch::all()];
+    let others = [antennas::all(), paging::all(), access::all(), desk::all(), samples::all(), jobs::all(), hspdsch::all()];
     for case in [dedicated.concat(), others.concat()].concat() {
         if questions_only {
             println!("{}", case.question);

@@ -28,7 +28,7 @@ use std::process::ExitCode;
 type Call = (&'static [u16], fn(&mut Draw) -> Case);
 
 /// In the order of `include/slt.h`, which is that of the table in `fuzz/calls.c`.
-const CALLS: [Call; 33] = [
+const CALLS: [Call; 36] = [
     (&[0, 8, 11], calls::pich_q),
     (&[0, 3, 4, 8], calls::pich_map),
     (&[0, 3, 4, 8, 9], calls::pich_read),
@@ -58,6 +58,9 @@ const CALLS: [Call; 33] = [
     (&[0, 3, 10], calls::aich_read),
     (&[0, 3, 11, 26], calls::aich_map_available),
     (&[0, 3, 10, 26], calls::aich_read_available),
+    (&[0, 3, 11], calls::desk_serve),
+    (&[0, 11], calls::desk_to_aich),
+    (&[0, 11], calls::desk_to_message),
     (&[0, 3, 11, 12], calls::aich_combine),
     (&[0, 11], calls::sample_off),
     (&[0, 11], calls::sample_shared),
