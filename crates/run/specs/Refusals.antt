@@ -77,3 +77,7 @@ bytesAfterRefused = 25
 -- 26: a nonzero indicator of a signature that is not available
 abbrev pub signatureRefused : ℕ
 signatureRefused = 26
+
+-- 32: a count of frames that stands at 4294967295
+abbrev pub countRefused : ℕ
+countRefused = 32

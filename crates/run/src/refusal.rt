@@ -38,3 +38,5 @@ pub const ENDS_EARLY: usize = 24;
 pub const BYTES_AFTER: usize = 25;
 // 26: a nonzero indicator of a signature that is not available.
 pub const SIGNATURE: usize = 26;
+// 32: a count of frames that stands at 4294967295.
+pub const COUNT: usize = 32;
