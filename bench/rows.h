@@ -8,6 +8,7 @@ void bench_frame(void);
 void bench_dpdch(void);
 void bench_dpcch(void);
 void bench_pich(void);
+void bench_wake(void);
 void bench_pccpch(void);
 void bench_sttd(void);
 void bench_aich(void);
