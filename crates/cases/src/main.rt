@@ -11,6 +11,7 @@ mod question;
 mod samples;
 mod uplink;
 mod values;
+mod wakes;
 
 use libc::STDIN_FILENO;
 
@@ -21,6 +22,8 @@ fn ask(call: usize, line: &[u8]) {
         question::AICH_MAP..=question::STTD_VALUES => values::lend(call, line),
         question::AICH_COMBINE => values::lend_results(line),
         question::SAMPLE => samples::take(line),
+        question::WAKE_RUN => wakes::run(line),
+        question::WAKE_STEP => wakes::step(line),
         _ => answer::text(b" -> no such call"),
     }
 }

@@ -67,7 +67,11 @@ pub(crate) const SAMPLE: usize = 26;
 
 pub(crate) const JOB: usize = 27;
 
-pub(crate) const NONE: usize = 28;
+pub(crate) const WAKE_RUN: usize = 28;
+
+pub(crate) const WAKE_STEP: usize = 29;
+
+pub(crate) const NONE: usize = 30;
 
 // How many digits and how many whole numbers a run has at most.
 pub(crate) const DIGITS: usize = 300;
@@ -126,7 +130,7 @@ pub(crate) fn call(line: &[u8]) -> usize {
     let mut k = 0;
     while k < NONE {
         let name = piece(
-            b" slot map , antenna map , frame map , P-CCPCH read , PICH map , PICH read , DPDCH map , DPDCH read , DPDCH frame map , DPDCH frame read , DPCCH map , DPCCH frame map , STTD digits , slot read , antennas read , P-CCPCH map , DPCCH read , frame read , DPCCH frame read , PICH q , AICH map , AICH read , AICH available map , AICH available read , STTD values , AICH combine , sample , job ",
+            b" slot map , antenna map , frame map , P-CCPCH read , PICH map , PICH read , DPDCH map , DPDCH read , DPDCH frame map , DPDCH frame read , DPCCH map , DPCCH frame map , STTD digits , slot read , antennas read , P-CCPCH map , DPCCH read , frame read , DPCCH frame read , PICH q , AICH map , AICH read , AICH available map , AICH available read , STTD values , AICH combine , sample , job , wake run , wake step ",
             b',',
             k,
         );
@@ -182,6 +186,19 @@ pub(crate) fn read(text: &[u8], hex: bool) -> usize
 
 pub(crate) fn number(line: &[u8], k: usize) -> usize {
     read(run(line, k), false)
+}
+
+// The same as a number of 32 bits: what is above them is cut off.
+pub(crate) fn word(line: &[u8], k: usize) -> u32 {
+    let text = run(line, k);
+    let mut n = 0u32;
+    let mut i = 0;
+    while i < text.len() {
+        let wide = n as usize * 10 + figure(text[i]);
+        n = (wide % 4294967296) as u32;
+        i += 1;
+    }
+    n
 }
 
 // The k-th whole number of a run.

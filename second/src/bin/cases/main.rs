@@ -18,6 +18,7 @@ mod runs;
 mod samples;
 mod slots;
 mod uplink;
+mod wake;
 
 fn main() {
     let questions_only = match std::env::args().nth(1).as_deref() {
@@ -26,7 +27,7 @@ fn main() {
         Some(other) => panic!("{other} is not --questions"),
     };
     let dedicated = [slots::all(), frames::all(), uplink::all()];
-    let others = [antennas::all(), paging::all(), access::all(), samples::all(), jobs::all()];
+    let others = [antennas::all(), paging::all(), access::all(), samples::all(), wake::all(), jobs::all()];
     for case in [dedicated.concat(), others.concat()].concat() {
         if questions_only {
             println!("{}", case.question);

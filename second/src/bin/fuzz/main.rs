@@ -16,6 +16,7 @@ mod dpch;
 mod draw;
 mod lent;
 mod uplink;
+mod wake;
 
 use case::Case;
 use draw::Draw;
@@ -27,10 +28,12 @@ use std::process::ExitCode;
 type Call = (&'static [u16], fn(&mut Draw) -> Case);
 
 /// In the order of `include/slt.h`, which is that of the table in `fuzz/calls.c`.
-const CALLS: [Call; 29] = [
+const CALLS: [Call; 31] = [
     (&[0, 8, 11], calls::pich_q),
     (&[0, 3, 4, 8], calls::pich_map),
     (&[0, 3, 4, 8, 9], calls::pich_read),
+    (&[0, 3, 4, 8, 9, 11, 32], wake::run),
+    (&[0, 3, 4, 8, 9, 11, 32], wake::step),
     (&[0, 1, 2, 3, 4, 5, 6], dpch::slot_map),
     (&[0, 1, 2, 3, 4, 5, 6, 7], dpch::slot_read),
     (&[0, 1, 2, 3, 4, 5, 6, 11], dpch::slot_map_antenna),
