@@ -17,27 +17,23 @@ fn tell(simulated: Simulated) {
 }
 
 pub(crate) fn run(line: &[u8]) {
-    tell(
-        wake_run::run(
-            number(line, 1),
-            number(line, 2),
-            question::run(line, 6),
-            word(line, 3),
-            word(line, 4),
-            word(line, 5),
-        ),
-    );
+    tell(wake_run::run(
+        number(line, 1),
+        number(line, 2),
+        question::run(line, 6),
+        word(line, 3),
+        word(line, 4),
+        word(line, 5),
+    ));
 }
 
 pub(crate) fn step(line: &[u8]) {
-    tell(
-        wake::frame(
-            number(line, 1),
-            number(line, 2),
-            question::run(line, 6),
-            word(line, 3),
-            word(line, 4),
-            word(line, 5),
-        ),
-    );
+    tell(wake::frame(
+        number(line, 1),
+        number(line, 2),
+        question::run(line, 6),
+        word(line, 3),
+        word(line, 4),
+        word(line, 5),
+    ));
 }

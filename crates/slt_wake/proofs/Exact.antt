@@ -16,12 +16,11 @@ wake-tells =
 pub wake-once : WakeOnce
 wake-once =
     record {
-      run = λ np pi frames read woke next a b x y z r s u p q.
-          (
-            one-outcome (p .answer-is) (q .answer-is),
-            one-outcome (p .read-is) (q .read-is),
-            one-outcome (p .woke-is) (q .woke-is),
-            one-outcome (p .next-is) (q .next-is),
-          );
+      run = λ np pi frames read woke next a b x y z r s u p q. (
+        one-outcome (p .answer-is) (q .answer-is),
+        one-outcome (p .read-is) (q .read-is),
+        one-outcome (p .woke-is) (q .woke-is),
+        one-outcome (p .next-is) (q .next-is),
+      );
       step = λ t np pi frame a b x y p q. (one-outcome (p .answer-is) (q .answer-is), one-outcome (p .tally-is) (q .tally-is));
     }

@@ -3,27 +3,23 @@
 use mathlib.Core.Path.{_≡_, refl, sym, ap, _∙_}
 use mathlib.Core.Bool.{Bool, true, false}
 use mathlib.Core.List.{List, _++_}
-use Prim.Native.Nat.{ℕ, _+_, _*_, _/_, _%_, _≤_, _<_}
+use Prim.Native.Nat.{ℕ, _+_, _/_, _%_, _<_}
 use native.Mathlib.Omega.{arith}
 use borrow.Author.Tests.{ltb-true, ltb-false, ne-eqb}
 use lib.Dec.{eqb, ltb, lit<}
 use lib.ListN.{length, getD, length-append}
-use Rattle.run.specs.declared.Verdict.{Verdict}
 use Rattle.run.specs.First.{firstBad, Every}
 use Rattle.run.specs.Verdicts.{done, unless, chain, Narrow}
-use Rattle.run.proofs.First.{first-le, first-below, first-fails, first-same, first-none, none-first, first-is, first-in-last}
+use Rattle.run.proofs.First.{first-le, first-below, first-fails, first-none, none-first, first-is, first-in-last}
 use Rattle.run.proofs.Chain.{or-else-narrow, check-narrow, unless-narrow, chain-narrow, chain-same, chain-hit, chain-end, chain-done, chain-goes-on, or-else-refused, leaves-refused, number-0, one-outcome}
 use Rattle.run.proofs.Parts.{part-front, part-behind}
-use Rattle.pich.specs.Rule.{indicatorsIn, frameOf, qOf}
-use Rattle.pich.specs.Outcome.{qVerdict, readVerdict}
-use Rattle.pich.specs.Exact.{Gives}
+use Rattle.pich.specs.Rule.{indicatorsIn, qOf}
 use Rattle.pich.proofs.Laws.{asked, taken, frame-length}
 use Rattle.pich.proofs.Exact as pich-exact
 use Rattle.wake.specs.declared.Tally.{Tally}
-use Rattle.wake.specs.declared.Simulated.{Simulated}
 use Rattle.wake.specs.Rule.{frameAt, sfnAt, wakes, woken, tallyAt}
-use Rattle.wake.specs.Outcome.{frameHead, frameVerdict, Frame, verdictAt, passesAt, runHead, runVerdict, framesRead, runTally, Run}
-use Rattle.wake.specs.Exact.{Counted, RunCounts, Ends, RunEnds, WakesAtQ, StepByStep, Joined, RunsJoin, ComesBack, FrameOnce, RunOnce, Packs}
+use Rattle.wake.specs.Outcome.{frameHead, frameVerdict, verdictAt, passesAt, runHead, runVerdict, framesRead, runTally}
+use Rattle.wake.specs.Exact.{Counted, RunCounts, RunEnds, WakesAtQ, StepByStep, RunsJoin, ComesBack, FrameOnce, RunOnce, Packs}
 use Rattle.wake.proofs.Laws.{sfn-none, sfn-fits, tally-none, tally-same, tally-add, verdict-add, frame-passed}
 use Rattle.wake.proofs.Frames.{same-answer, frame-plain, passes-is, is-passes, fails-is, is-fails, passes-same, verdict-first, verdict-same, one-by-one, run-is, read-is, after-is}
 
@@ -80,8 +76,7 @@ module _ (np pi : ℕ) (t : Tally) (frames : List ℕ) where
   unfolding runVerdict runTally framesRead
   not-whole h =
       let is = head-refused h in
-      let bad : runHead frames .number ≡ 0 → ⊥ = rw is (λ z. let y : ⊥ = omega arith in y) in
-      (
+      let bad : runHead frames .number ≡ 0 → ⊥ = rw is (λ z. let y : ⊥ = omega arith in y) in (
         or-else-refused _ _ bad ∙ is,
         ap (tallyAt np pi t f) (leaves-refused (runHead frames) _ 0 bad) ∙ tally-none np pi t f,
       )
@@ -90,8 +85,7 @@ module _ (np pi : ℕ) (t : Tally) (frames : List ℕ) where
   no-frames h =
       let whole : length frames % 300 ≡ 0 = omega arith in
       let none : length frames / 300 ≡ 0 = omega arith in
-      let w = first-le (passesAt np pi t f) (length frames / 300) in
-      (
+      let w = first-le (passesAt np pi t f) (length frames / 300) in (
         run-is np pi t frames whole ∙ chain-end _ _ (λ j m. absurd (let z : ⊥ = omega arith in z)),
         after-is np pi t frames whole ∙ ap (tallyAt np pi t f) (let z : firstBad (passesAt np pi t f) (length frames / 300) ≡ 0 = omega arith in z) ∙ tally-none np pi t f,
       )

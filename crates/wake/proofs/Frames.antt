@@ -4,7 +4,6 @@ use mathlib.Core.Path.{_≡_, refl, sym, ap, _∙_}
 use mathlib.Core.Bool.{Bool, true, false}
 use mathlib.Core.List.{List}
 use Prim.Native.Nat.{ℕ, zero, suc, _+_, _/_, _%_, _<_}
-use native.Mathlib.Nat.{suc-add, zero-add}
 use native.Mathlib.Omega.{arith}
 use borrow.Author.Tests.{eqb-true, eqb-false, eq-eqb, ne-eqb}
 use lib.Dec.{eqb}
@@ -12,15 +11,14 @@ use lib.ListN.{length}
 use Rattle.run.specs.declared.Verdict.{Verdict}
 use Rattle.run.specs.First.{firstBad, Every}
 use Rattle.run.specs.Verdicts.{done, chain}
-use Rattle.run.proofs.First.{first-below, first-same, first-none, first-is}
-use Rattle.run.proofs.Chain.{or-else-next, or-else-refused, unless-pass, unless-plain, each-plain, or-else-plain, leaves-done, leaves-refused, number-0, chain-same, chain-hit, chain-end}
+use Rattle.run.proofs.First.{first-same, first-none, first-is}
+use Rattle.run.proofs.Chain.{or-else-next, unless-pass, unless-plain, each-plain, or-else-plain, leaves-done, leaves-refused, number-0, chain-same, chain-hit, chain-end}
 use Rattle.pich.specs.Outcome.{qVerdict, readHead, readVerdict}
 use Rattle.wake.specs.declared.Tally.{Tally}
-use Rattle.wake.specs.declared.Simulated.{Simulated}
 use Rattle.wake.specs.Rule.{frameAt, tallyAt}
-use Rattle.wake.specs.Outcome.{hasRoom, frameHead, frameVerdict, frameTally, verdictAt, passesAt, runHead, runVerdict, framesRead, runTally, Run}
+use Rattle.wake.specs.Outcome.{frameHead, frameVerdict, frameTally, verdictAt, passesAt, runHead, runVerdict, framesRead, runTally, Run}
 use Rattle.wake.specs.Exact.{simulated, oneByOne}
-use Rattle.wake.proofs.Laws.{tally-none, tally-same, tally-add, verdict-add, tally-more}
+use Rattle.wake.proofs.Laws.{tally-none, tally-same, tally-add, verdict-add}
 
 pub same-answer : {v w : Verdict} {t u : Tally} → v ≡ w → t ≡ u → simulated v t ≡ simulated w u
 same-answer p q = λ i. record { verdict = p i; tally = q i }
@@ -148,19 +146,19 @@ module _ (np pi : ℕ) where
           goes-on t f n h
           ∙ later
           ∙ same-answer
-            (sym (chain-next n (verdictAt np pi t f) h0 ∙ chain-same n _ (verdictAt np pi (frameTally np pi t (f 0)) (λ (k : ℕ). f (suc k))) (λ k l. verdict-rest t (frameTally np pi t (f 0)) f moved k)))
-            (sym
-            (ap (tallyAt np pi t f) (first-passes t f n (is-passes t f 0 h0))
-            ∙ tally-rest t (frameTally np pi t (f 0)) f moved (firstBad (λ (k : ℕ). passesAt np pi t f (suc k)) n)
-            ∙ ap (tallyAt np pi (frameTally np pi t (f 0)) (λ (k : ℕ). f (suc k))) far))
+          (sym (chain-next n (verdictAt np pi t f) h0 ∙ chain-same n _ (verdictAt np pi (frameTally np pi t (f 0)) (λ (k : ℕ). f (suc k))) (λ k l. verdict-rest t (frameTally np pi t (f 0)) f moved k)))
+          (sym
+          (ap (tallyAt np pi t f) (first-passes t f n (is-passes t f 0 h0))
+          ∙ tally-rest t (frameTally np pi t (f 0)) f moved (firstBad (λ (k : ℕ). passesAt np pi t f (suc k)) n)
+          ∙ ap (tallyAt np pi (frameTally np pi t (f 0)) (λ (k : ℕ). f (suc k))) far))
       side later false e =
           let h : frameVerdict np pi t (f 0) .number ≡ 0 → ⊥ = eqb-false _ _ e in
           let h0 : verdictAt np pi t f 0 .number ≡ 0 → ⊥ = rw (verdict-first t f) h in
           stops t f n h
           ∙ same-answer
-            (sym (chain-hit (suc n) (verdictAt np pi t f) 0 (omega arith) (λ j l. absurd (let z : ⊥ = omega arith in z)) h0 ∙ verdict-first t f))
-            (tally-kept np pi t (f 0) h
-            ∙ sym (ap (tallyAt np pi t f) (first-is (passesAt np pi t f) (suc n) 0 (omega arith) (λ k l. absurd (let z : ⊥ = omega arith in z)) (λ _. is-fails t f 0 h0)) ∙ tally-none np pi t f))
+          (sym (chain-hit (suc n) (verdictAt np pi t f) 0 (omega arith) (λ j l. absurd (let z : ⊥ = omega arith in z)) h0 ∙ verdict-first t f))
+          (tally-kept np pi t (f 0) h
+          ∙ sym (ap (tallyAt np pi t f) (first-is (passesAt np pi t f) (suc n) 0 (omega arith) (λ k l. absurd (let z : ⊥ = omega arith in z)) (λ _. is-fails t f 0 h0)) ∙ tally-none np pi t f))
 
   -- ---- a run, where the frames are whole
 

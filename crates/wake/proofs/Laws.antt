@@ -1,10 +1,10 @@
 -- Laws of the tally: moved on by no frame, by some and then by others; and of one frame's checks in their order.
 -- Assumes nothing.
 use mathlib.Core.Path.{_≡_, refl, sym, ap, _∙_}
-use mathlib.Core.Bool.{Bool, true, false, cond, _&&_}
+use mathlib.Core.Bool.{Bool, true, false, cond}
 use mathlib.Core.List.{List}
-use Prim.Native.Nat.{ℕ, zero, suc, _+_, _%_, _≤_, _<_}
-use native.Mathlib.Nat.{add-zero, zero-add, suc-add}
+use Prim.Native.Nat.{ℕ, _+_, _%_, _<_}
+use native.Mathlib.Nat.{add-zero}
 use native.Mathlib.Omega.{arith}
 use borrow.Author.Tests.{eqb-true, eqb-false, ltb-true, ne-eqb}
 use lib.Dec.{eqb, ltb}
@@ -18,7 +18,6 @@ use Rattle.run.proofs.Count.{count-same, count-sum}
 use Rattle.pich.specs.Rule.{indicatorsIn, qOf}
 use Rattle.pich.specs.Outcome.{qVerdict, readVerdict}
 use Rattle.wake.specs.declared.Tally.{Tally}
-use Rattle.wake.specs.declared.Simulated.{Simulated}
 use Rattle.wake.specs.Rule.{sfnAt, wakes, woken, tallyAt}
 use Rattle.wake.specs.Outcome.{hasRoom, frameHead, frameVerdict, frameTally, Frame, verdictAt}
 

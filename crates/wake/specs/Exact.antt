@@ -2,19 +2,18 @@
 -- Assumes nothing.
 use Prim.Native.Nat.{ℕ, zero, suc, _+_, _*_, _/_, _%_, _≤_, _<_}
 use mathlib.Core.Path.{_≡_}
-use mathlib.Core.Bool.{true, cond}
+use mathlib.Core.Bool.{cond}
 use mathlib.Core.List.{List, _++_}
 use lib.Dec.{eqb}
 use lib.ListN.{length, getD}
 use Rattle.run.specs.declared.Verdict.{Verdict}
-use Rattle.run.specs.Count.{count}
 use Rattle.run.specs.Verdicts.{done, Narrow}
-use Rattle.pich.specs.Rule.{frameOf, qOf}
+use Rattle.pich.specs.Rule.{qOf}
 use Rattle.pich.specs.Exact.{Gives}
 use Rattle.wake.specs.declared.Tally.{Tally}
 use Rattle.wake.specs.declared.Simulated.{Simulated}
 use Rattle.wake.specs.Rule.{frameAt, wakes, woken}
-use Rattle.wake.specs.Outcome.{frameVerdict, frameTally, Frame, verdictAt, runHead, runVerdict, framesRead, runTally, Run}
+use Rattle.wake.specs.Outcome.{frameVerdict, frameTally, Frame, verdictAt, runVerdict, framesRead, runTally, Run}
 
 -- ---- what a run counts
 

@@ -90,21 +90,10 @@ fn moved(read: u32, woke: u32, next: u32, indicator: u8) -> Tally
 }
 
 // One frame: q of its SFN, the indicator there, and the tally moved on; or the refusal and the tally as it was.
-pub fn frame(
-    np: usize,
-    pi: usize,
-    digits: &[u8],
-    read: u32,
-    woke: u32,
-    next: u32,
-) -> Simulated
+pub fn frame(np: usize, pi: usize, digits: &[u8], read: u32, woke: u32, next: u32) -> Simulated
     ensures { λ r. ⌜ Frame np pi (record { read = read; woke = woke; next = next }) (now (digits .entry)) r ⌝ }
 {
-    let tally = Tally {
-        read,
-        woke,
-        next,
-    };
+    let tally = Tally { read, woke, next };
     let head = frame_head(digits.len(), read, woke, next);
     if head.number != 0 {
         return Simulated {

@@ -7,7 +7,6 @@ use Prim.Native.Nat.{ℕ, _+_, _-_, _*_, _/_, _%_, _≤_, _<_}
 use native.Mathlib.Omega.{arith}
 use borrow.Author.Count.{below-none, below-more}
 use lib.ListN.{length, take, drop}
-use Rattle.run.specs.declared.Verdict.{Verdict}
 use Rattle.run.specs.First.{Every}
 use Rattle.run.specs.Verdicts.{done}
 use Rattle.run.proofs.Parts.{part-lent}

@@ -38,21 +38,10 @@ fn frame_by_frame(np: usize, pi: usize, frames: &[u8], first: Tally) -> Simulate
 }
 
 // The tally after the frames, or after those before the first that is refused, and the refusal.
-pub fn run(
-    np: usize,
-    pi: usize,
-    frames: &[u8],
-    read: u32,
-    woke: u32,
-    next: u32,
-) -> Simulated
+pub fn run(np: usize, pi: usize, frames: &[u8], read: u32, woke: u32, next: u32) -> Simulated
     ensures { λ r. ⌜ Run np pi (record { read = read; woke = woke; next = next }) (now (frames .entry)) r ⌝ }
 {
-    let tally = Tally {
-        read,
-        woke,
-        next,
-    };
+    let tally = Tally { read, woke, next };
     if frames.len() % 300 != 0 {
         return Simulated {
             verdict: Verdict {

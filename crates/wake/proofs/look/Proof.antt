@@ -1,6 +1,5 @@
 -- `wake::look` meets its contract: there is room for as many indicators as any frame has.
 -- Assumes nothing.
-use native.Mathlib.Omega.{arith}
 use borrow.Author.Needs.{needs}
 use Rattle.pich.proofs.Laws.{groups}
 use Rattle.wake.proofs.look.Statement.{statement}

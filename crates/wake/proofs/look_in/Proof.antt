@@ -1,6 +1,6 @@
 -- `wake::look_in` meets its contract: the reader's own verdict, and one of the indicators that it hands back.
 -- Assumes nothing.
-use mathlib.Core.Path.{_≡_, ap, _∙_}
+use mathlib.Core.Path.{ap, _∙_}
 use mathlib.Core.List.{List}
 use Prim.Native.Nat.{ℕ}
 use denote.Ref.{now}
@@ -24,8 +24,7 @@ returns : tie.Need-returns
 returns c =
     let start = c .before .before .before .before .before .before .before in
     let read = c .before .before .before .read in
-    let r = read .ensures in
-    (
+    let r = read .ensures in (
       r .verdict-is ∙ ap (readVerdict (start .args .np) (now (start .args .digits))) (start .pre .1),
       λ e. ap (λ (s : List ℕ). getD s (start .args .q) 0) (r .indicators-is ∙ leaves-done _ _ _ (rw (r .verdict-is) at e)),
     )
