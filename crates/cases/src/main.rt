@@ -22,8 +22,7 @@ fn ask(call: usize, line: &[u8]) {
         question::AICH_MAP..=question::STTD_VALUES => values::lend(call, line),
         question::AICH_COMBINE => values::lend_results(line),
         question::SAMPLE => samples::take(line),
-        question::WAKE_RUN => wakes::run(line),
-        question::WAKE_STEP => wakes::step(line),
+        question::WAKE_RUN..=question::WAKE_STEP => wakes::ask(call, line),
         _ => answer::text(b" -> no such call"),
     }
 }

@@ -188,9 +188,8 @@ pub(crate) fn number(line: &[u8], k: usize) -> usize {
     read(run(line, k), false)
 }
 
-// The same as a number of 32 bits: what is above them is cut off.
-pub(crate) fn word(line: &[u8], k: usize) -> u32 {
-    let text = run(line, k);
+// A number of 32 bits: what is above them is cut off.
+fn cut(text: &[u8]) -> u32 {
     let mut n = 0u32;
     let mut i = 0;
     while i < text.len() {
@@ -199,6 +198,10 @@ pub(crate) fn word(line: &[u8], k: usize) -> u32 {
         i += 1;
     }
     n
+}
+
+pub(crate) fn word(line: &[u8], k: usize) -> u32 {
+    cut(run(line, k))
 }
 
 // The k-th whole number of a run.

@@ -16,24 +16,16 @@ fn tell(simulated: Simulated) {
     answer::number(tally.next as usize);
 }
 
-pub(crate) fn run(line: &[u8]) {
-    tell(wake_run::run(
-        number(line, 1),
-        number(line, 2),
-        question::run(line, 6),
-        word(line, 3),
-        word(line, 4),
-        word(line, 5),
-    ));
-}
-
-pub(crate) fn step(line: &[u8]) {
-    tell(wake::frame(
-        number(line, 1),
-        number(line, 2),
-        question::run(line, 6),
-        word(line, 3),
-        word(line, 4),
-        word(line, 5),
-    ));
+pub(crate) fn ask(call: usize, line: &[u8]) {
+    let np = number(line, 1);
+    let pi = number(line, 2);
+    let read = word(line, 3);
+    let woke = word(line, 4);
+    let next = word(line, 5);
+    let frames = question::run(line, 6);
+    if call == question::WAKE_RUN {
+        tell(wake_run::run(np, pi, frames, read, woke, next));
+    } else {
+        tell(wake::frame(np, pi, frames, read, woke, next));
+    }
 }

@@ -109,24 +109,24 @@ pub q-told : (np pi sfn q : ℕ) → qVerdict np (record { 0 = pi }) sfn .number
 q-told np pi sfn q z e = e ∙ leaves-done (qVerdict np (record { 0 = pi }) sfn) (qOf np pi sfn) 0 z
 
 pub record Passed (np pi : ℕ) (t : Tally) (frame : List ℕ) : Type 0 where
-  pub head-ok : frameHead t (length frame) .number ≡ 0
+  pub head-ok : frameHead (t .read) (t .woke) (length frame) .number ≡ 0
   pub q-ok : qVerdict np (record { 0 = pi }) (t .next) .number ≡ 0
   pub read-ok : readVerdict np frame np .number ≡ 0
 
-pub record Roomy (t : Tally) (frameLength : ℕ) : Type 0 where
+pub record Roomy (read woke frameLength : ℕ) : Type 0 where
   pub long : frameLength ≡ 300
-  pub read-room : t .read < 4294967295
-  pub woke-room : t .woke < 4294967295
+  pub read-room : read < 4294967295
+  pub woke-room : woke < 4294967295
 
-pub roomy : (t : Tally) (frameLength : ℕ) → frameHead t frameLength .number ≡ 0 → Roomy t frameLength
+pub roomy : (read woke frameLength : ℕ) → frameHead read woke frameLength .number ≡ 0 → Roomy read woke frameLength
 unfolding frameHead hasRoom
-roomy t frameLength h =
+roomy read woke frameLength h =
     let both = or-else-done _ _ h in
     let room = unless-done _ 32 0 (omega arith) (both .rest) in
     record {
       long = eqb-true _ _ (unless-done _ 3 0 (omega arith) (both .first));
       read-room = ltb-true _ _ (and-left _ _ room);
-      woke-room = ltb-true _ _ (and-right (ltb (t .read) 4294967295) _ room);
+      woke-room = ltb-true _ _ (and-right (ltb read 4294967295) _ room);
     }
 
 module _ (np pi : ℕ) (t : Tally) (frame : List ℕ) where
@@ -142,16 +142,16 @@ module _ (np pi : ℕ) (t : Tally) (frame : List ℕ) where
   unfolding frameTally
   frame-stops v e h = record { verdict-is = e; tally-is = sym (leaves-refused (frameVerdict np pi t frame) _ t (rw (← e) h)) }
 
-  pub head-is : (frameHead t (length frame) .number ≡ 0 → ⊥) → frameHead t (length frame) ≡ frameVerdict np pi t frame
+  pub head-is : (frameHead (t .read) (t .woke) (length frame) .number ≡ 0 → ⊥) → frameHead (t .read) (t .woke) (length frame) ≡ frameVerdict np pi t frame
   unfolding frameVerdict
   head-is h = sym (or-else-refused _ _ h)
 
-  pub q-is : frameHead t (length frame) .number ≡ 0 → (qVerdict np (record { 0 = pi }) (t .next) .number ≡ 0 → ⊥)
+  pub q-is : frameHead (t .read) (t .woke) (length frame) .number ≡ 0 → (qVerdict np (record { 0 = pi }) (t .next) .number ≡ 0 → ⊥)
       → qVerdict np (record { 0 = pi }) (t .next) ≡ frameVerdict np pi t frame
   unfolding frameVerdict
   q-is a h = sym (or-else-next _ _ a ∙ or-else-refused _ _ h)
 
-  pub read-is : frameHead t (length frame) .number ≡ 0 → qVerdict np (record { 0 = pi }) (t .next) .number ≡ 0 → readVerdict np frame np ≡ frameVerdict np pi t frame
+  pub read-is : frameHead (t .read) (t .woke) (length frame) .number ≡ 0 → qVerdict np (record { 0 = pi }) (t .next) .number ≡ 0 → readVerdict np frame np ≡ frameVerdict np pi t frame
   unfolding frameVerdict
   read-is a b = sym (or-else-next _ _ a ∙ or-else-next _ _ b)
 

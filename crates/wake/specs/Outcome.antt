@@ -16,17 +16,17 @@ use Rattle.wake.specs.declared.Simulated.{Simulated}
 use Rattle.wake.specs.Rule.{frameAt, tallyAt}
 
 -- both counts have room for one more: neither is 4294967295
-unfoldable pub hasRoom : Tally → Bool
-hasRoom t = ltb (t .read) 4294967295 && ltb (t .woke) 4294967295
+unfoldable pub hasRoom : ℕ → ℕ → Bool
+hasRoom read woke = ltb read 4294967295 && ltb woke 4294967295
 
 -- one frame: 3, then 32 ..
-unfoldable pub frameHead : Tally → ℕ → Verdict
-frameHead t frameLength = orElse (unless (eqb frameLength 300) lengthRefused 0) (unless (hasRoom t) countRefused 0)
+unfoldable pub frameHead : ℕ → ℕ → ℕ → Verdict
+frameHead read woke frameLength = orElse (unless (eqb frameLength 300) lengthRefused 0) (unless (hasRoom read woke) countRefused 0)
 
 -- .. then as for q (8, 11) and as for the PICH reader (4, 9); places within the frame
 unfoldable pub frameVerdict : ℕ → ℕ → Tally → List ℕ → Verdict
 frameVerdict np pi t frame =
-    orElse (frameHead t (length frame))
+    orElse (frameHead (t .read) (t .woke) (length frame))
     (orElse (qVerdict np (record { 0 = pi }) (t .next))
     (readVerdict np frame np))
 

@@ -6,12 +6,12 @@ use run::refusal;
 use run::unless;
 ghost use Prim.Native.Nat.{_+_, _%_, _<_};
 ghost use mathlib.Core.Path.{_≡_};
-ghost use mathlib.Core.Bool.{true, cond, _&&_};
-ghost use lib.Dec.{eqb, ltb};
+ghost use mathlib.Core.Bool.{true, cond};
+ghost use lib.Dec.{eqb};
 ghost use lib.ListN.{length, getD};
 ghost use Rattle.pich.specs.Rule.{isNp, indicatorsIn};
 ghost use Rattle.pich.specs.Outcome.{readVerdict};
-ghost use Rattle.wake.specs.Outcome.{frameHead, Frame};
+ghost use Rattle.wake.specs.Outcome.{hasRoom, frameHead, Frame};
 
 // The running tally of a simulation, as C has it too.
 #[repr(C)]
@@ -41,7 +41,7 @@ const FULL: u32 = 4294967295;
 
 // Neither count is at its end.
 fn has_room(read: u32, woke: u32) -> bool
-    ensures { λ r. ⌜ r ≡ (ltb read 4294967295 && ltb woke 4294967295) ⌝ }
+    ensures { λ r. ⌜ r ≡ hasRoom read woke ⌝ }
 {
     if read < FULL {
         return woke < FULL;
@@ -49,8 +49,8 @@ fn has_room(read: u32, woke: u32) -> bool
     false
 }
 
-fn frame_head(frame_length: usize, read: u32, woke: u32, next: u32) -> Verdict
-    ensures { λ r. ⌜ r ≡ frameHead (record { read = read; woke = woke; next = next }) «frame_length» ⌝ }
+fn frame_head(frame_length: usize, read: u32, woke: u32) -> Verdict
+    ensures { λ r. ⌜ r ≡ frameHead read woke «frame_length» ⌝ }
 {
     let counts = unless(has_room(read, woke), refusal::COUNT, 0);
     or_else(unless(frame_length == 300, refusal::LENGTH, 0), counts)
@@ -94,7 +94,7 @@ pub fn frame(np: usize, pi: usize, digits: &[u8], read: u32, woke: u32, next: u3
     ensures { λ r. ⌜ Frame np pi (record { read = read; woke = woke; next = next }) (now (digits .entry)) r ⌝ }
 {
     let tally = Tally { read, woke, next };
-    let head = frame_head(digits.len(), read, woke, next);
+    let head = frame_head(digits.len(), read, woke);
     if head.number != 0 {
         return Simulated {
             verdict: head,

@@ -50,7 +50,7 @@ moved-requires c κs =
     let looked = c .before .before .before in
     let paging = looked .before .before .before .before .before in
     let e = paging .before .before .before .frame-head .ensures in
-    let room = roomy _ _ (rw e at (paging .before .if1 .left)) in
+    let room = roomy _ _ _ (rw e at (paging .before .if1 .left)) in
     let a = paging .q .ensures .verdict-is in
     (room .read-room, room .woke-room, asked _ _ _ (rw a at (looked .before .before .if2 .left)) .sfn-ok)
 

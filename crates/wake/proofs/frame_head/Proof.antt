@@ -1,7 +1,7 @@
 -- `wake::frame_head` meets its contract: the chain of checks is the definition's.
 -- Assumes nothing.
 use borrow.Author.Needs.{needs}
-use Rattle.wake.specs.Outcome.{hasRoom, frameHead}
+use Rattle.wake.specs.Outcome.{frameHead}
 use Rattle.wake.proofs.frame_head.Statement.{statement}
 use Rattle.wake.proofs.frame_head.Tie as tie
 
@@ -18,7 +18,7 @@ or-else-requires : tie.Need-or-else-requires
 or-else-requires c κs = search needs
 
 returns : tie.Need-returns
-unfolding frameHead hasRoom
+unfolding frameHead
 returns c =
     rw (
       c .or-else .ensures,
