@@ -84,7 +84,7 @@ typedef struct {
 } slt_tally;
 
 /* All frames, n digits of them, 0 included. A run stops at the first frame that is refused, and the three numbers are as the frames
- * before it left them: *read tells which frame it was. The place is within that frame. */
+ * before it left them: how far *read went up tells which frame it was. The place is within that frame. */
 uint64_t slt_wake_run(size_t np, size_t pi, const uint8_t *frames, size_t n, uint32_t *read, uint32_t *woke, uint32_t *next_sfn);
 
 /* One frame; n is 300. A refused step leaves the tally as it was. */
