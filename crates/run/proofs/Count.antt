@@ -1,17 +1,11 @@
--- How many places pass a test: one place more, tests that agree, and a stretch in two parts.
+-- How many places pass a test: tests that agree, and a stretch in two parts.
 -- Assumes nothing.
 use mathlib.Core.Path.{_≡_, refl, ap, _∙_}
-use mathlib.Core.Bool.{Bool, true, false, cond}
-use Prim.Native.Nat.{ℕ, zero, suc, _+_, _≤_, _<_}
+use mathlib.Core.Bool.{Bool}
+use Prim.Native.Nat.{ℕ, zero, suc, _+_, _<_}
 use native.Mathlib.Nat.{add-zero, add-suc}
-use native.Mathlib.Numerals.{add-one}
 use native.Mathlib.Omega.{arith}
 use Rattle.run.specs.Count.{count}
-
--- one place more
-pub count-more : (n : ℕ) (test : ℕ → Bool) → count (n + 1) test ≡ count n test + cond (test n) 1 0
-unfolding count
-count-more n test = rw (add-one n)
 
 pub count-same : (n : ℕ) (f g : ℕ → Bool) → ((k : ℕ) → k < n → f k ≡ g k) → count n f ≡ count n g
 unfolding count
@@ -27,12 +21,3 @@ count-sum m zero f = ap (λ (k : ℕ). count k f) (add-zero m) ∙ omega arith
 count-sum m (suc n) f =
     let rest = count-sum m n f in
     ap (λ (k : ℕ). count k f) (add-suc m n) ∙ (rw rest (omega arith))
-
-one-le : (b : Bool) → cond b 1 0 ≤ 1
-one-le true = omega arith
-one-le false = omega arith
-
-pub count-le : (n : ℕ) (f : ℕ → Bool) → count n f ≤ n
-unfolding count
-count-le zero f = omega arith
-count-le (suc n) f = let rest = count-le n f in let last = one-le (f n) in omega arith
