@@ -27,11 +27,15 @@ def declared(tree):
 
 
 def in_c(kind):
-    """A Rattle type as C sees it: a lent run is a pointer and a length, another lent thing a pointer; a struct SltName is slt_name."""
+    """A Rattle type as C sees it: a lent run is a pointer and a length, another lent thing a pointer; a struct Name or SltName is slt_name."""
     lent = re.fullmatch(r"&(mut )?(\[?)(\w+)\]?", kind)
     if lent:
         return [("" if lent[1] else "const ") + in_c(lent[3])[0] + " *"] + (["size_t"] if lent[2] else [])
-    return [NUMBERS.get(kind) or re.sub(r"(?<!^)([A-Z])", r"_\1", kind).lower()]
+    return [NUMBERS.get(kind) or struct_name(kind)]
+
+
+def struct_name(name):
+    return "slt_" + re.sub(r"(?<!^)([A-Z])", r"_\1", name).lower().removeprefix("slt_")
 
 
 def exported(tree):
@@ -59,6 +63,18 @@ def fresh(tree):
         yield f"{HEADER}: SLT_DESK_FRESH is not the freshLast of {DESK}"
 
 
+def layouts(tree):
+    """The structs that cross to C: each has the types of its fields in one order on both sides."""
+    header = {name: re.findall(r"(\w+) \w+;", body) for body, name in re.findall(r"typedef struct \{([^}]*)\} (\w+);", code(tree))}
+    crates = {}
+    for path in tree.under("crates/*/src/*.rt"):
+        for name, body in re.findall(r"#\[repr\(C\)\]\s*pub struct (\w+) \{([^}]*)\}", tree.text(path)):
+            crates[struct_name(name)] = [NUMBERS.get(kind, kind) for kind in re.findall(r"pub \w+: (\w+)", body)]
+    for name in sorted(header.keys() | crates.keys()):
+        if header.get(name) != crates.get(name):
+            yield f"{HEADER}: {name} has the fields {header.get(name)}, and in its crate {crates.get(name)}"
+
+
 def faults(tree):
     header, crates = declared(tree), exported(tree)
     found = [f"{HEADER}: {name} is exported by no crate slt_NAME" for name in sorted(header.keys() - crates.keys())]
@@ -71,6 +87,7 @@ def faults(tree):
     if sorted(listed) != sorted(name for name in tree.crates if name.startswith("slt_")):
         found.append("Makefile: C_CALLS does not name the crates slt_NAME of crates.txt")
     found += fresh(tree)
+    found += layouts(tree)
     known = header.keys() | others(tree)
     named = set(re.findall(r"\b(?:slt|SLT)_\w+", tree.text(HEADER)))
     return found + [f"{HEADER}: {name} is nothing that it declares" for name in sorted(named - known)]

@@ -32,6 +32,7 @@ PLANTS = (
     ("a C function that is not exported", "include/slt.h", "slt_pich_q(", "slt_pich_qq(", "slt_pich_q"),
     ("a type of the header", "include/slt.h", "slt_pich_q(size_t np, size_t pi", "slt_pich_q(size_t np, int64_t pi", "slt_pich_q"),
     ("what a fresh desk holds", "include/slt.h", "SLT_DESK_FRESH 15u", "SLT_DESK_FRESH 0u", "SLT_DESK_FRESH"),
+    ("a field of a struct of the header", "include/slt.h", "uint32_t next_sfn;", "uint64_t next_sfn;", "slt_tally"),
     ("a macro", "docs/INTERFACE.md", "`SLT_PLACE(a)`", "`SLT_WHERE(a)`", "SLT_WHERE"),
     ("a make target", "docs/SPEED.md", "`make bench`", "`make benches`", "make benches"),
     ("a make target in a block", "README.md", "    make lib ", "    make libs ", "make libs"),

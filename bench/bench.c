@@ -11,6 +11,7 @@ int main(int n_arguments, char **arguments) {
     bench_dpdch();
     bench_dpcch();
     bench_pich();
+    bench_wake();
     bench_pccpch();
     bench_hspdsch();
     bench_sttd();

@@ -9,6 +9,7 @@ void bench_compressed(void);
 void bench_dpdch(void);
 void bench_dpcch(void);
 void bench_pich(void);
+void bench_wake(void);
 void bench_pccpch(void);
 void bench_hspdsch(void);
 void bench_sttd(void);

@@ -46,6 +46,9 @@
     uint64_t whose##_pich_q(size_t np, size_t pi, size_t sfn);                                                                  \
     uint64_t whose##_pich_map(size_t np, const uint8_t *indicators, size_t n_indicators, uint8_t *frame, size_t n_frame);       \
     uint64_t whose##_pich_read(size_t np, const uint8_t *frame, size_t n_frame, uint8_t *indicators, size_t n_indicators);      \
+    uint64_t whose##_wake_run(size_t np, size_t pi, const uint8_t *frames, size_t n, uint32_t *read, uint32_t *woke,            \
+                              uint32_t *next_sfn);                                                                              \
+    uint64_t whose##_wake_step(slt_tally *tally, size_t np, size_t pi, const uint8_t *frame, size_t n);                         \
     uint64_t whose##_pccpch_map(const uint8_t *data, size_t n_data, uint8_t *antenna1, size_t n1, uint8_t *antenna2,            \
                                 size_t n2);                                                                                     \
     uint64_t whose##_pccpch_read(const uint8_t *antenna1, size_t n1, const uint8_t *antenna2, size_t n2, uint8_t *data,         \

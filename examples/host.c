@@ -216,6 +216,27 @@ static int random_access(void) {
     return 0;
 }
 
+/* Three recorded PICH frames from SFN 4095 on, of which the last is damaged: a step for the first, and then all in one run. */
+static int waking(void) {
+    const uint8_t ones[36] = {[7] = 1, [25] = 1};
+    uint8_t frames[3 * 300];
+    slt_tally tally = {0, 0, 4095};
+    uint32_t read = 0, woke = 0, next_sfn = 4095;
+
+    for (size_t k = 0; k < 3; k++) {
+        if (SLT_NUMBER(slt_pich_map(36, ones, sizeof ones, frames + 300 * k, 300)) != SLT_DONE) {
+            return 1;
+        }
+    }
+    frames[2 * 300 + 299] = 0;
+
+    print_answer("slt_wake_step", slt_wake_step(&tally, 36, 7, frames, 300));
+    printf("read %" PRIu32 " woke %" PRIu32 " next SFN %" PRIu32 "\n", tally.read, tally.woke, tally.next_sfn);
+    print_answer("slt_wake_run", slt_wake_run(36, 7, frames, sizeof frames, &read, &woke, &next_sfn));
+    printf("read %" PRIu32 " woke %" PRIu32 " next SFN %" PRIu32 "\n", read, woke, next_sfn);
+    return 0;
+}
+
 int main(void) {
-    return paging() || slot() || two_antennas() || compressed() || high_speed() || uplink() || random_access();
+    return paging() || slot() || two_antennas() || compressed() || high_speed() || uplink() || random_access() || waking();
 }

@@ -47,6 +47,24 @@ static void pich_read(struct test *t) {
     t->got = slt_pich_read(t->given[0], digits(t, 0), n(t, 0), digits(t, 1), n(t, 1));
 }
 
+/* A number that comes and goes through its pointer is told as it is to be afterwards; what it holds before the call is given. */
+static uint32_t *number(const struct test *t, size_t i, uint64_t before) {
+    uint32_t *lent = (uint32_t *)(void *)t->run[i].lent;
+    *lent = (uint32_t)before;
+    return lent;
+}
+
+static void wake_run(struct test *t) {
+    t->got = slt_wake_run(t->given[0], t->given[1], digits(t, 0), n(t, 0), number(t, 1, t->given[2]), number(t, 2, t->given[3]),
+                          number(t, 3, t->given[4]));
+}
+
+static void wake_step(struct test *t) {
+    slt_tally *tally = (slt_tally *)(void *)t->run[1].lent;
+    *tally = (slt_tally){(uint32_t)t->given[2], (uint32_t)t->given[3], (uint32_t)t->given[4]};
+    t->got = slt_wake_step(tally, t->given[0], t->given[1], digits(t, 0), n(t, 0));
+}
+
 static void slot_map(struct test *t) {
     t->got = slt_slot_map(t->given[0], t->given[1], t->given[2], digits(t, 0), n(t, 0), digits(t, 1), n(t, 1), digits(t, 2),
                           n(t, 2));
@@ -197,6 +215,8 @@ const struct call calls[] = {
     {"slt_pich_q", 3, "", pich_q},
     {"slt_pich_map", 1, "11", pich_map},
     {"slt_pich_read", 1, "11", pich_read},
+    {"slt_wake_run", 5, "1444", wake_run},
+    {"slt_wake_step", 5, "14", wake_step},
     {"slt_slot_map", 3, "111", slot_map},
     {"slt_slot_read", 2, "111", slot_read},
     {"slt_slot_map_antenna", 4, "111", slot_map_antenna},

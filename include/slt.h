@@ -13,9 +13,12 @@
  *   - a run that is written does not overlap any other run of the call;
  *   - nobody else writes a run during the call.
  * What is owed for the one pointer without a length, last of slt_desk_serve, is said there.
+ * For a pointer that comes without a length (the tally of the wake simulation): it is not NULL, it is aligned for its type, what it
+ * points to lies apart from every run of the call and from what every other such pointer points to, and nobody else reads or writes
+ * it during the call.
  *
  * What a caller gets: for all contents, lengths and numbers the call ends without undefined behaviour;
- * a refused call writes to no run. A digit is 0, 1, or 2 for DTX; any other byte is refused, never misread.
+ * a refused call writes to no run (slt_wake_run alone leaves its tally as the frames before the refused one left it). A digit is 0, 1, or 2 for DTX; any other byte is refused, never misread.
  * The calls keep no state (a desk is the caller's) and may be made from any thread.
  */
 #ifndef SLT_H
@@ -61,6 +64,9 @@ extern "C" {
 /* Of compressed frames. */
 #define SLT_REFUSED_GAP 27u /* a gap that leaves too few or too many slots of a compressed frame, or runs past slot 14 */
 
+/* Of the wake simulation. */
+#define SLT_REFUSED_COUNT 32u /* frames read or frames that woke stand at 4294967295 */
+
 /* PICH (TS 25.211, 5.3.3.10). np is 18, 36, 72 or 144. */
 
 /* The paging indicator q of a higher-layer PI (0 to np - 1) in the frame of an SFN (0 to 4095), as the value. */
@@ -71,6 +77,22 @@ uint64_t slt_pich_map(size_t np, const uint8_t *indicators, size_t n_indicators,
 
 /* The np indicators of a frame of 300 digits. */
 uint64_t slt_pich_read(size_t np, const uint8_t *frame, size_t n_frame, uint8_t *indicators, size_t n_indicators);
+
+/* Wake simulation: when the handset with a PI (0 to np - 1) would wake to recorded PICH frames, one after the other in one run of 300
+ * digits each. At each frame q is worked out for the next SFN, the indicator there is read, and the tally moves on: frames read,
+ * frames that woke the handset (its indicator is 1), the SFN of the next frame (0 to 4095; 4095 is followed by 0). */
+typedef struct {
+    uint32_t read;
+    uint32_t woke;
+    uint32_t next_sfn;
+} slt_tally;
+
+/* All frames, n digits of them, 0 included. A run stops at the first frame that is refused, and the three numbers are as the frames
+ * before it left them: how far *read went up tells which frame it was. The place is within that frame. */
+uint64_t slt_wake_run(size_t np, size_t pi, const uint8_t *frames, size_t n, uint32_t *read, uint32_t *woke, uint32_t *next_sfn);
+
+/* One frame; n is 300. A refused step leaves the tally as it was. */
+uint64_t slt_wake_step(slt_tally *tally, size_t np, size_t pi, const uint8_t *frame, size_t n);
 
 /* Downlink DPCH slots (TS 25.211, 5.3.2), normal formats 0 to 16, slots 0 to 14. Field order: Data1, TPC, TFCI, Data2, pilot.
  * A slot's TFCI digits are all bits or all DTX (2), in every format that has some. */

@@ -34,6 +34,40 @@ pub fn pich_read(np: usize, frame: &mut Lent<u8>, indicators: &mut Lent<u8>) -> 
     })
 }
 
+// Wake simulation
+
+/// `slt_tally` of `include/slt.h`.
+#[repr(C)]
+#[derive(Clone, Copy)]
+struct SltTally {
+    read: u32,
+    woke: u32,
+    next_sfn: u32,
+}
+
+unsafe extern "C" {
+    fn slt_wake_run(
+        np: usize, pi: usize, frames: *const u8, n: usize, read: *mut u32, woke: *mut u32, next_sfn: *mut u32,
+    ) -> u64;
+    fn slt_wake_step(tally: *mut SltTally, np: usize, pi: usize, frame: *const u8, n: usize) -> u64;
+}
+
+/// Each of the three numbers is a run of one.
+pub fn wake_run(np: usize, pi: usize, frames: &mut Lent<u8>, [read, woke, next_sfn]: [&mut Lent<u32>; 3]) -> Answer {
+    assert!(read.len() == 1 && woke.len() == 1 && next_sfn.len() == 1, "a tally is three numbers");
+    let n = frames.len();
+    Answer::unpack(unsafe {
+        slt_wake_run(np, pi, frames.pointer(), n, read.pointer(), woke.pointer(), next_sfn.pointer())
+    })
+}
+
+/// The tally is a run of three numbers, which is what the struct is in memory.
+pub fn wake_step(tally: &mut Lent<u32>, np: usize, pi: usize, frame: &mut Lent<u8>) -> Answer {
+    assert_eq!((tally.len(), size_of::<SltTally>()), (3, 12), "a tally is three numbers");
+    let n = frame.len();
+    Answer::unpack(unsafe { slt_wake_step(tally.pointer().cast(), np, pi, frame.pointer(), n) })
+}
+
 // DPCH slot
 
 unsafe extern "C" {

@@ -27,6 +27,7 @@ type Channel = (&'static str, fn(&mut Judge));
 
 const CHANNELS: &[Channel] = &[
     ("pich", compare::pich::all),
+    ("wake", compare::wake::all),
     ("dpch", compare::dpch::all),
     ("antenna", compare::antenna::all),
     ("frame", compare::frame::all),

@@ -13,6 +13,7 @@ mod question;
 mod samples;
 mod uplink;
 mod values;
+mod wakes;
 
 use libc::STDIN_FILENO;
 
@@ -27,6 +28,7 @@ fn ask(call: usize, line: &[u8]) {
         question::DESK_SERVE => access::serve(line),
         question::DESK_TO_AICH => access::to_aich(line),
         question::DESK_TO_MESSAGE => access::to_message(line),
+        question::WAKE_RUN..=question::WAKE_STEP => wakes::ask(call, line),
         _ => answer::text(b" -> no such call"),
     }
 }

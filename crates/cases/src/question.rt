@@ -81,7 +81,11 @@ pub(crate) const DESK_TO_AICH: usize = 33;
 
 pub(crate) const DESK_TO_MESSAGE: usize = 34;
 
-pub(crate) const NONE: usize = 35;
+pub(crate) const WAKE_RUN: usize = 35;
+
+pub(crate) const WAKE_STEP: usize = 36;
+
+pub(crate) const NONE: usize = 37;
 
 // How many digits and how many whole numbers a run has at most.
 pub(crate) const DIGITS: usize = 300;
@@ -140,7 +144,7 @@ pub(crate) fn call(line: &[u8]) -> usize {
     let mut k = 0;
     while k < NONE {
         let name = piece(
-            b" slot map , antenna map , frame map , P-CCPCH read , PICH map , PICH read , DPDCH map , DPDCH read , DPDCH frame map , DPDCH frame read , DPCCH map , DPCCH frame map , compressed map , STTD digits , slot read , antennas read , P-CCPCH map , DPCCH read , frame read , DPCCH frame read , compressed read , PICH q , AICH map , AICH read , AICH available map , AICH available read , STTD values , AICH combine , sample , job , HS-PDSCH map , HS-PDSCH read , desk serve , desk to AICH , desk to message ",
+            b" slot map , antenna map , frame map , P-CCPCH read , PICH map , PICH read , DPDCH map , DPDCH read , DPDCH frame map , DPDCH frame read , DPCCH map , DPCCH frame map , compressed map , STTD digits , slot read , antennas read , P-CCPCH map , DPCCH read , frame read , DPCCH frame read , compressed read , PICH q , AICH map , AICH read , AICH available map , AICH available read , STTD values , AICH combine , sample , job , HS-PDSCH map , HS-PDSCH read , desk serve , desk to AICH , desk to message , wake run , wake step ",
             b',',
             k,
         );
@@ -196,6 +200,22 @@ pub(crate) fn read(text: &[u8], hex: bool) -> usize
 
 pub(crate) fn number(line: &[u8], k: usize) -> usize {
     read(run(line, k), false)
+}
+
+// A number of 32 bits: what is above them is cut off.
+fn cut(text: &[u8]) -> u32 {
+    let mut n = 0u32;
+    let mut i = 0;
+    while i < text.len() {
+        let wide = n as usize * 10 + figure(text[i]);
+        n = (wide % 4294967296) as u32;
+        i += 1;
+    }
+    n
+}
+
+pub(crate) fn word(line: &[u8], k: usize) -> u32 {
+    cut(run(line, k))
 }
 
 // The k-th whole number of a run.

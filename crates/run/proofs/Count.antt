@@ -3,6 +3,7 @@
 use mathlib.Core.Path.{_≡_, refl, sym, ap, _∙_}
 use mathlib.Core.Bool.{Bool, true, false, cond}
 use Prim.Native.Nat.{ℕ, zero, suc, _+_, _≤_, _<_}
+use native.Mathlib.Nat.{add-zero, add-suc}
 use native.Mathlib.Numerals.{add-one}
 use native.Mathlib.Omega.{arith}
 use borrow.Author.Tests.{eqb-true, eqb-false}
@@ -27,6 +28,14 @@ count-none zero f all = refl
 count-none (suc n) f all =
     let rest = count-none n f (λ k h. all k (omega arith)) in
     rw (rest, all n (omega arith))
+
+-- the first m places and the n after them
+pub count-sum : (m n : ℕ) (f : ℕ → Bool) → count (m + n) f ≡ count m f + count n (λ (k : ℕ). f (m + k))
+unfolding count
+count-sum m zero f = ap (λ (k : ℕ). count k f) (add-zero m) ∙ omega arith
+count-sum m (suc n) f =
+    let rest = count-sum m n f in
+    ap (λ (k : ℕ). count k f) (add-suc m n) ∙ (rw rest (omega arith))
 
 abbrev one : Bool → ℕ
 one b = cond b 1 0

@@ -7,7 +7,7 @@ use native.Mathlib.Nat.{zero-mul, suc-mul, add-mul, mul-le-mul-right, add-comm, 
 use native.Mathlib.Numerals.{add-one}
 use native.Mathlib.Omega.{arith}
 use lib.ListN.{length, getD, take, drop, length-append, length-drop, take-append-drop}
-use lib.Seq.{take-at, take-add, take-take, drop-at, drop-drop, length-take-le, getD-take, getD-drop}
+use lib.Seq.{take-at, take-add, take-take, drop-at, drop-drop, take-append-le, drop-append-le, length-take-le, getD-take, getD-drop}
 use Rattle.run.specs.Fields.{joined}
 use Rattle.run.specs.Parts.{part}
 use Rattle.run.specs.Table.{tab}
@@ -96,3 +96,19 @@ module _ {A : Type 0} where
       ap₂ (λ (x y : List A). x ++ y) (ap (λ (j : ℕ). take n (drop j s)) (zero-mul n))
       (ap (λ (f : ℕ → List A). joined (tab m f)) (fun-ext (part-rest n s)) ∙ joined-part m n (drop n s) left)
       ∙ take-append-drop n s
+
+  -- parts of two runs one after the other, of which the first is made of m parts
+  pub part-front : (k m n : ℕ) (s t : List A) → k < m → length s ≡ m * n → part k n (s ++ t) ≡ part k n s
+  unfolding part
+  part-front k m n s t h e =
+      let r = part-room k m n h in
+      let room : n ≤ length (drop (k * n) s) = simp length-drop (omega arith) in
+      ap (λ (x : List A). take n x) (drop-append-le (k * n) s t (omega arith)) ∙ take-append-le n (drop (k * n) s) t room
+
+  pub part-behind : (m k n : ℕ) (s t : List A) → length s ≡ m * n → part (m + k) n (s ++ t) ≡ part k n t
+  unfolding part
+  part-behind m k n s t e =
+      ap (λ (x : List A). take n x)
+      (ap (λ (j : ℕ). drop j (s ++ t)) (add-mul m k n)
+      ∙ sym (drop-drop (k * n) (m * n) (s ++ t))
+      ∙ ap (λ (x : List A). drop (k * n) x) (drop-at s t (m * n) e))

@@ -81,3 +81,7 @@ signatureRefused = 26
 -- 27: a gap that leaves too few or too many slots of a compressed frame, or runs past slot 14
 abbrev pub gapRefused : ℕ
 gapRefused = 27
+
+-- 32: a count of frames that stands at 4294967295
+abbrev pub countRefused : ℕ
+countRefused = 32

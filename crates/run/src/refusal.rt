@@ -40,3 +40,5 @@ pub const BYTES_AFTER: usize = 25;
 pub const SIGNATURE: usize = 26;
 // 27: a gap that leaves too few or too many slots of a compressed frame, or runs past slot 14.
 pub const GAP: usize = 27;
+// 32: a count of frames that stands at 4294967295.
+pub const COUNT: usize = 32;

@@ -17,6 +17,7 @@ pub mod pccpch;
 pub mod pich;
 pub mod sample;
 pub mod sttd;
+pub mod wake;
 
 /// Lengths to try for a run: the right one, near it, far from it, and equal to it in the low 8 or 16 bits. `None` is
 /// NULL.

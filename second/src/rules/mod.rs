@@ -19,3 +19,4 @@ pub mod pccpch;
 pub mod pich;
 pub mod sample;
 pub mod sttd;
+pub mod wake;

@@ -21,6 +21,7 @@ mod runs;
 mod samples;
 mod slots;
 mod uplink;
+mod wake;
 
 fn main() {
     let questions_only = match std::env::args().nth(1).as_deref() {
@@ -29,7 +30,7 @@ fn main() {
         Some(other) => panic!("{other} is not --questions"),
     };
     let dedicated = [slots::all(), frames::all(), compressed::all(), uplink::all()];
-    let others = [antennas::all(), paging::all(), access::all(), desk::all(), samples::all(), jobs::all(), hspdsch::all()];
+    let others = [antennas::all(), paging::all(), access::all(), desk::all(), samples::all(), wake::all(), jobs::all(), hspdsch::all()];
     for case in [dedicated.concat(), others.concat()].concat() {
         if questions_only {
             println!("{}", case.question);

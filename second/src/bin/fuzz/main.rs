@@ -17,6 +17,7 @@ mod dpch;
 mod draw;
 mod lent;
 mod uplink;
+mod wake;
 
 use case::Case;
 use draw::Draw;
@@ -28,10 +29,12 @@ use std::process::ExitCode;
 type Call = (&'static [u16], fn(&mut Draw) -> Case);
 
 /// In the order of `include/slt.h`, which is that of the table in `fuzz/calls.c`.
-const CALLS: [Call; 36] = [
+const CALLS: [Call; 38] = [
     (&[0, 8, 11], calls::pich_q),
     (&[0, 3, 4, 8], calls::pich_map),
     (&[0, 3, 4, 8, 9], calls::pich_read),
+    (&[0, 3, 4, 8, 9, 11, 32], wake::run),
+    (&[0, 3, 4, 8, 9, 11, 32], wake::step),
     (&[0, 1, 2, 3, 4, 5, 6], dpch::slot_map),
     (&[0, 1, 2, 3, 4, 5, 6, 7], dpch::slot_read),
     (&[0, 1, 2, 3, 4, 5, 6, 11], dpch::slot_map_antenna),
