@@ -19,9 +19,9 @@ shape-in-requires c κs = search needs
 add-reach : tie.Need-add-reach
 unfolding shapeOf
 add-reach c =
-    let start = c .before .before .before .before in
+    let start = c .before .before .before in
     let window = now (start .args .window) in
-    let small = size-small (getD window 0 0) (getD window 1 0) (omega (arith, c .before .before .before .shared-slice-known .given 1)) in
+    let small = size-small (getD window 0 0) (getD window 1 0) (omega (arith, c .before .before .shared-slice-known .given 1)) in
     rw (c .before .shape-in .ensures) (omega (arith, small))
 
 reach-requires : tie.Need-reach-requires
@@ -55,7 +55,7 @@ returns c =
       c .before .before .before .reach2 .ensures,
       c .before .before .before .before .or-else .ensures,
       c .before .before .before .before .before .reach .ensures,
-      c .before .before .before .before .before .before .shape-in .ensures,
+      c .before .before .before .before .before .before .before .shape-in .ensures,
     )
 
 pub kind-head-spec : {M : Type 1} → statement M
