@@ -171,6 +171,14 @@ window-ends limit file offset window w =
     by-window w (λ (rest : List ℕ). endVerdict limit offset window ≡ endVerdict limit offset rest) refl (λ behind h. end-same limit offset window behind h)
 
 -- ---- the header
+pub width-small : (version : ℕ) → widthOf version ≤ 2
+unfolding widthOf
+width-small version = pick (eqb version 1)
+  where
+    pick : (b : Bool) → cond b 1 2 ≤ 2
+    pick true = omega arith
+    pick false = omega arith
+
 module _ (window behind : List ℕ) (holds : min (0 + headAsks window) (suc (limitOf (versionIn window))) ≤ 0 + length window) where
   abbrev file : List ℕ
   file = window ++ behind
@@ -212,14 +220,6 @@ module _ (window behind : List ℕ) (holds : min (0 + headAsks window) (suc (lim
           rw (e, lt-leb (length file) 65535 (omega arith), lt-leb (length window) 65535 (omega arith))
       pick false e = rw e
 
-  width-small : (version : ℕ) → 4 + widthOf version < 7
-  unfolding widthOf
-  width-small version = pick (eqb version 1)
-    where
-      pick : (b : Bool) → 4 + cond b 1 2 < 7
-      pick true = omega arith
-      pick false = omega arith
-
   verdict-same : headVerdict window ≡ headVerdict file
   unfolding headVerdict
   verdict-same =
@@ -236,7 +236,7 @@ module _ (window behind : List ℕ) (holds : min (0 + headAsks window) (suc (lim
         byte-is-same 3 (eqb (getD window 3 0) 0) (UnknownVersion 3) (omega arith),
         byte-is-same 4 (isVersion (versionIn window)) (UnknownVersion 4) (omega arith),
         length-same,
-        present-same (4 + widthOf (versionIn window)) w,
+        present-same (4 + widthOf (versionIn window)) (omega arith),
       )
 
   count-same : (width : ℕ) → 5 + width ≤ 7 → countIn width window ≡ countIn width file
