@@ -1,24 +1,27 @@
 -- A record whose head passed its checks: its bytes are all in the window, and what is left is the mapper's verdict.
 -- Assumes nothing.
 use mathlib.Core.Path.{_≡_, refl, sym, ap₂, _∙_}
-use mathlib.Core.Bool.{true}
+use mathlib.Core.Bool.{Bool, true, false}
 use mathlib.Core.List.{List}
 use Prim.Native.Nat.{ℕ, _+_, _-_, _≤_, _<_}
 use native.Mathlib.Omega.{arith}
+use borrow.Author.Tests.{eqb-true, eqb-false, ltb-true}
+use lib.Dec.{eqb}
 use lib.ListN.{length, getD, take, drop}
 use lib.Seq.{getD-take, length-take-le}
 use Rattle.run.specs.declared.Verdict.{Verdict}
 use Rattle.run.specs.Verdicts.{orElse, leaves}
-use Rattle.run.proofs.Chain.{five-done, or-else-done, or-else-next, unless-pass, leaves-refused, number-0}
+use Rattle.run.proofs.Chain.{five-done, or-else-done, or-else-next, unless-pass, leaves-done, leaves-refused, number-0}
 use Rattle.lines.specs.declared.Told.{Told}
 use Rattle.kinds.specs.Rule.{isKind, secondVerdict}
 use Rattle.lines.specs.Outcome.{room, isWhole, lineVerdict, Record}
 use Rattle.kinds.proofs.ByKind.{size-some}
 use Rattle.lines.proofs.Checks.{then-refused, then-next}
 use Rattle.lines.proofs.Records.{prints-refused, is-whole}
+use Rattle.job.specs.declared.Opened.{Opened}
 use Rattle.job.specs.declared.Ran.{Ran}
-use Rattle.job.specs.Rule.{sizeIn, recordIn}
-use Rattle.job.specs.Outcome.{kindHead, recordHead, recordVerdict, runVerdict, Run}
+use Rattle.job.specs.Rule.{versionIn, widthOf, sizeIn, recordIn}
+use Rattle.job.specs.Outcome.{present, headVerdict, kindHead, recordHead, recordVerdict, openVerdict, runVerdict, Open, Run}
 use Rattle.job.proofs.Checks.{check-done, reach-done}
 
 pub record Headed (window : List ℕ) : Type 0 where
@@ -85,3 +88,30 @@ module _ (limit offset : ℕ) (window line : List ℕ) {t : Verdict} (e : t ≡ 
       let is = run-is h in
       let v : told .verdict ≡ runVerdict limit offset window (length line) = r .verdict-is ∙ is in
       rw a (record { verdict-is = v; size-is = ap₂ (λ (w : Verdict) (n : ℕ). leaves w n 0) v s; prints = rw (← is) (r .prints) })
+
+-- what was opened or run lies within its window
+pub run-fits : {limit offset : ℕ} {window line : List ℕ} {answer : Ran} {line′ : List ℕ} → Run limit offset window line answer line′ → answer .size ≤ length window
+unfolding runVerdict recordVerdict
+run-fits {limit} {offset} {window} {line} {answer} r = pick (eqb (runVerdict limit offset window (length line) .number) 0) refl
+  where
+    pick : (b : Bool) → eqb (runVerdict limit offset window (length line) .number) 0 ≡ b → answer .size ≤ length window
+    pick true e =
+        let h = eqb-true _ _ e in
+        let size = r .size-is ∙ leaves-done _ _ _ h in
+        let inside = headed limit offset window (or-else-done _ _ (or-else-done _ _ h .rest) .first) .inside in
+        omega arith
+    pick false e = let size = r .size-is ∙ leaves-refused _ _ _ (eqb-false _ _ e) in omega arith
+
+pub open-fits : {window line : List ℕ} {answer : Opened} {line′ : List ℕ} → Open window line answer line′ → answer .next ≤ length window
+unfolding openVerdict headVerdict present
+open-fits {window} {line} {answer} r = pick (eqb (openVerdict window (length line) .number) 0) refl
+  where
+    pick : (b : Bool) → eqb (openVerdict window (length line) .number) 0 ≡ b → answer .next ≤ length window
+    pick true e =
+        let h = eqb-true _ _ e in
+        let next = r .next-is ∙ leaves-done _ _ _ h in
+        let marked = or-else-done _ _ (or-else-done _ _ (or-else-done _ _ (or-else-done _ _ h .rest) .rest) .rest) .rest in
+        let known = or-else-done _ _ (or-else-done _ _ (or-else-done _ _ marked .rest) .rest) .rest in
+        let there : 4 + widthOf (versionIn window) < length window = ltb-true _ _ (check-done _ _ known) in
+        omega arith
+    pick false e = let next = r .next-is ∙ leaves-refused _ _ _ (eqb-false _ _ e) in omega arith
