@@ -1,11 +1,12 @@
 -- Checks of a file's own bytes and of a line's room: what is known where one passes.
 -- Assumes nothing.
 use mathlib.Core.Path.{_≡_, refl, sym, _∙_}
-use mathlib.Core.Bool.{Bool, true, false}
+use mathlib.Core.Bool.{Bool, true, false, cond}
 use mathlib.Core.List.{List}
 use Prim.Native.Nat.{ℕ, _≤_}
 use native.Mathlib.Omega.{arith}
 use borrow.Author.Tests.{leb-true, le-leb}
+use lib.Dec.{eqb}
 use Rattle.run.specs.declared.Verdict.{Verdict}
 use Rattle.run.proofs.Chain.{or-else-done, unless-pass, leaves-done, number-0}
 use Rattle.lines.specs.Outcome.{lineSize, room, Prints}
@@ -13,6 +14,7 @@ use Rattle.lines.proofs.Checks.{room-done}
 use Rattle.job.specs.declared.fault.Fault.{Fault}
 use Rattle.job.specs.declared.fault.Fault.the-variants.{OverLong, WrongMark, UnknownVersion, UnknownKind, EndsEarly, BytesAfter}
 use Rattle.job.specs.Faults.{verdictOf, check}
+use Rattle.job.specs.Rule.{widthOf}
 use Rattle.job.specs.Outcome.{reach, openVerdict}
 
 -- a fault is a refusal
@@ -34,6 +36,15 @@ check-done false fault e = absurd (fault-refuses fault e)
 pub reach-done : (limit size end : ℕ) → reach limit size end .number ≡ 0 → end ≤ size
 unfolding reach
 reach-done limit size end h = leb-true _ _ (check-done _ _ (or-else-done _ _ h .rest))
+
+-- a count has at most two bytes
+pub width-small : (version : ℕ) → widthOf version ≤ 2
+unfolding widthOf
+width-small version = pick (eqb version 1)
+  where
+    pick : (b : Bool) → cond b 1 2 ≤ 2
+    pick true = omega arith
+    pick false = omega arith
 
 -- a line with room for one call has room for another
 pub room-passes : (place lineLength : ℕ) → lineSize ≤ lineLength → room place lineLength .number ≡ 0

@@ -2,7 +2,7 @@
 -- Assumes nothing.
 use mathlib.Core.Path.{_≡_, refl, sym, ap, ap₂, _∙_}
 use mathlib.Core.Bool.{Bool, true, false}
-use mathlib.Core.List.{List, [], _++_}
+use mathlib.Core.List.{List, [], _++_, append-nil}
 use Prim.Native.Nat.{ℕ, zero, suc, _+_, _≤_}
 use native.Mathlib.Omega.{arith}
 use borrow.Author.Tests.{eqb-true, eqb-false}
@@ -36,7 +36,7 @@ use Rattle.job.specs.Exact.{Tells, Steps, Job, JobPrints, OpenOnce, RunO
 use Rattle.job.specs.Exact.Steps.{ends, left-over, runs, refuses}
 use Rattle.job.specs.Exact.Job.{opens, closed}
 use Rattle.job.proofs.Checks.{room-passes}
-use Rattle.job.proofs.Windows.{append-nothing, window-opens, window-runs, window-ends}
+use Rattle.job.proofs.Windows.{window-opens, window-runs, window-ends}
 
 -- ---- what a call prints, as a caller takes it off the line
 printed-off : {v : Verdict} {text line line′ : List ℕ} {n : ℕ} → Prints v text line n line′ → v .number ≡ 0 → take n line′ ≡ text
@@ -106,7 +106,7 @@ blank-room : lineSize ≤ length blank
 blank-room = let l = length-replicate {A = ℕ} lineSize 0 in omega arith
 
 all-left : (limit : ℕ) (file : List ℕ) (offset asked : ℕ) → Window limit file offset asked (drop offset file)
-all-left limit file offset asked = record { behind = []; cut = sym (append-nothing (drop offset file)); holds = λ h. absurd (h refl) }
+all-left limit file offset asked = record { behind = []; cut = sym (append-nil (drop offset file)); holds = λ h. absurd (h refl) }
 
 tells : (v : Verdict) → Tells v (refusalLine v)
 tells v =

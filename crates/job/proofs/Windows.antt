@@ -2,7 +2,7 @@
 -- Assumes nothing.
 use mathlib.Core.Path.{_≡_, refl, sym, ap, _∙_}
 use mathlib.Core.Bool.{Bool, true, false, cond}
-use mathlib.Core.List.{List, [], _∷_, _++_}
+use mathlib.Core.List.{List, [], _∷_, _++_, append-nil}
 use Prim.Native.Nat.{ℕ, zero, suc, _+_, _*_, _≤_, _<_, min}
 use native.Mathlib.Omega.{arith}
 use borrow.Author.Tests.{eqb-true, eqb-false, eq-eqb, leb-true, leb-false, le-leb, lt-leb, lt-ltb}
@@ -21,12 +21,8 @@ use Rattle.job.specs.Faults.{check}
 use Rattle.job.specs.Rule.{versionIn, isVersion, widthOf, limitOf, countIn, sizeIn, recordIn}
 use Rattle.job.specs.Outcome.{within, reach, present, byteIs, lengthVerdict, headVerdict, sizeFrom, kindHead, recordHead, recordVerdict, endVerdict}
 use Rattle.job.specs.Windows.{headAsks, recordAsks, Window, SameHead, First, Same, WindowOpens, WindowRuns, WindowEnds, RecordAsksFew}
-use Rattle.job.proofs.Checks.{check-done, reach-done}
+use Rattle.job.proofs.Checks.{check-done, reach-done, width-small}
 use Rattle.job.proofs.Headed.{headed}
-
-pub append-nothing : (s : List ℕ) → s ++ [] ≡ s
-append-nothing [] = refl
-append-nothing (x ∷ s) = ap (λ (l : List ℕ). x ∷ l) (append-nothing s)
 
 not-nothing : {x : ℕ} {s : List ℕ} → x ∷ s ≡ [] → ⊥
 not-nothing {x} {s} e = let z : suc (length s) ≡ 0 = ap length e in let n : ⊥ = omega arith in n
@@ -148,7 +144,7 @@ module _ {limit : ℕ} {file : List ℕ} {offset asked : ℕ} {window : List ℕ
   by-window whole more = rw (w .cut) (pick (w .behind) refl)
     where
       pick : (behind : List ℕ) → w .behind ≡ behind → P (window ++ w .behind)
-      pick [] e = rw (e, append-nothing window) whole
+      pick [] e = rw (e, append-nil window) whole
       pick (x ∷ xs) e = more (w .behind) (w .holds (λ n. not-nothing (sym e ∙ n)))
 
 pub window-runs : WindowRuns
@@ -171,14 +167,6 @@ window-ends limit file offset window w =
     by-window w (λ (rest : List ℕ). endVerdict limit offset window ≡ endVerdict limit offset rest) refl (λ behind h. end-same limit offset window behind h)
 
 -- ---- the header
-pub width-small : (version : ℕ) → widthOf version ≤ 2
-unfolding widthOf
-width-small version = pick (eqb version 1)
-  where
-    pick : (b : Bool) → cond b 1 2 ≤ 2
-    pick true = omega arith
-    pick false = omega arith
-
 module _ (window behind : List ℕ) (holds : min (0 + headAsks window) (suc (limitOf (versionIn window))) ≤ 0 + length window) where
   abbrev file : List ℕ
   file = window ++ behind

@@ -2,7 +2,7 @@
 -- Assumes nothing.
 use native.Mathlib.Omega.{arith}
 use Rattle.job.specs.Outcome.{headVerdict}
-use Rattle.job.proofs.Windows.{width-small}
+use Rattle.job.proofs.Checks.{width-small}
 use borrow.Author.Needs.{needs}
 use Rattle.job_open.proofs.head_verdict.Statement.{statement}
 use Rattle.job_open.proofs.head_verdict.Tie as tie

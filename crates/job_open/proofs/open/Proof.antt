@@ -5,8 +5,7 @@ use Prim.Native.Nat.{ℕ, _+_}
 use native.Mathlib.Omega.{arith}
 use Rattle.run.proofs.Chain.{leaves-done, leaves-refused}
 use Rattle.lines.proofs.Records.{prints-refused}
-use Rattle.job.proofs.Checks.{open-room, prints-as}
-use Rattle.job.proofs.Windows.{width-small}
+use Rattle.job.proofs.Checks.{width-small, open-room, prints-as}
 use borrow.Author.Needs.{needs}
 use Rattle.job_open.proofs.open.Statement.{statement}
 use Rattle.job_open.proofs.open.Tie as tie
