@@ -52,7 +52,7 @@ fn reach(limit: usize, size: usize, end: usize) -> Verdict
 }
 
 // What the first two bytes of a window say of the record that begins there.
-pub fn shape_in(window: &[u8]) -> Shape
+fn shape_in(window: &[u8]) -> Shape
     ensures { λ r. ⌜ r ≡ shapeOf (getD (now (window .entry)) 0 0) (getD (now (window .entry)) 1 0) ⌝ }
 {
     shape_of(byte_at(window, 0), byte_at(window, 1))

@@ -1,5 +1,7 @@
 // Runs a record of a job file: docs/RULES.md, 'Job file and program'. The definitions, the promises and the theorems are those of `job`.
 use job::Ran;
+use job::byte_at;
+use kinds::shape_of;
 use lines::LINE;
 use lines::Told;
 use run::Verdict;
@@ -50,7 +52,7 @@ pub fn run(window: &[u8], offset: u32, limit: u32, line: &mut [u8]) -> Ran
             length: 0,
         };
     }
-    let shape = job::shape_in(window);
+    let shape = shape_of(byte_at(window, 0), byte_at(window, 1));
     let size = shape.size;
     let told = lines::record(&window[0..size], line);
     answer(told, size)

@@ -3,6 +3,7 @@
 use mathlib.Core.Path.{_≡_, ap}
 use native.Mathlib.Omega.{arith}
 use denote.Ref.{now}
+use lib.ListN.{getD}
 use Rattle.kinds.specs.declared.Shape.{Shape}
 use Rattle.kinds.specs.Rule.{shapeOf}
 use Rattle.job.specs.Rule.{sizeIn}
@@ -17,8 +18,14 @@ run-head-requires c κs = search needs
 returns : tie.Need-returns
 returns c = run-refused _ _ _ _ (c .before .before .run-head .ensures) (c .if1 .taken)
 
-shape-in-requires : tie.Need-shape-in-requires
-shape-in-requires c κs = search needs
+byte-at-requires : tie.Need-byte-at-requires
+byte-at-requires c κs = search needs
+
+byte-at-requires-2 : tie.Need-byte-at-requires-2
+byte-at-requires-2 c κs = search needs
+
+shape-of-requires : tie.Need-shape-of-requires
+shape-of-requires c κs = search needs
 
 sub-record : tie.Need-sub-record
 sub-record c = search needs
@@ -29,9 +36,11 @@ part-record-start c = search needs
 part-record-end : tie.Need-part-record-end
 unfolding shapeOf
 part-record-end c =
-    let start = c .before .before .before .before .before .before in
-    let h = run-headed (start .args .limit) (start .args .offset) (now (start .args .window)) (now (start .args .line)) (c .before .before .before .run-head .ensures) (c .before .if1 .left) in
-    let size : c .shape-in .result .size ≡ sizeIn (now (start .args .window)) = ap (λ (s : Shape). s .size) (c .shape-in .ensures) in
+    let start = c .before .before .before .before .before .before .before .before in
+    let window = now (start .args .window) in
+    let h = run-headed (start .args .limit) (start .args .offset) window (now (start .args .line)) (c .before .before .before .before .before .run-head .ensures) (c .before .before .before .if1 .left) in
+    let shape : c .shape-of .result ≡ shapeOf (getD window 0 0) (getD window 1 0) = rw (c .shape-of .ensures, c .before .byte-at2 .ensures, c .before .before .byte-at .ensures) in
+    let size : c .shape-of .result .size ≡ sizeIn window = ap (λ (s : Shape). s .size) shape in
     omega (arith, h .inside)
 
 record-requires : tie.Need-record-requires
@@ -46,9 +55,12 @@ same-length c = search needs
 returns-2 : tie.Need-returns-2
 unfolding shapeOf
 returns-2 c =
-    let head = c .before .before .before .before .before .before .before .before .before .run-head .ensures in
-    let ok = c .before .before .before .before .before .before .before .if1 .left in
-    let size = ap (λ (s : Shape). s .size) (c .before .before .before .before .before .before .shape-in .ensures) in
+    let start = c .before .before .before .before .before .before .before .before .before .before .before .before .before .before in
+    let window = now (start .args .window) in
+    let head = c .before .before .before .before .before .before .before .before .before .before .before .run-head .ensures in
+    let ok = c .before .before .before .before .before .before .before .before .before .if1 .left in
+    let shape : c .before .before .before .before .before .before .shape-of .result ≡ shapeOf (getD window 0 0) (getD window 1 0) = rw (c .before .before .before .before .before .before .shape-of .ensures, c .before .before .before .before .before .before .before .byte-at2 .ensures, c .before .before .before .before .before .before .before .before .byte-at .ensures) in
+    let size = ap (λ (s : Shape). s .size) shape in
     run-told _ _ _ _ head ok size (rw (part-is _ size) at (c .before .before .before .«record» .ensures)) (c .answer .ensures)
 
 pub run-spec : {M : Type 1} → statement M
@@ -57,7 +69,9 @@ run-spec =
     (tie.spec
     run-head-requires
     returns
-    shape-in-requires
+    byte-at-requires
+    byte-at-requires-2
+    shape-of-requires
     sub-record
     part-record-start
     part-record-end
