@@ -2,8 +2,8 @@
 use crate::answer;
 use run::Verdict;
 use run::or_else;
+use run::shorter;
 ghost use Prim.Native.Nat.{_≤_};
-ghost use lib.ListN.{length};
 
 fn tell(verdict: Verdict) {
     if verdict.number != 0 {
@@ -14,23 +14,39 @@ fn tell(verdict: Verdict) {
     }
 }
 
+// An offset in a file that is asked on one line.
+fn small(offset: usize) -> u32
+    ensures { λ r. ⌜ r ≤ 65536 ⌝ }
+{
+    if offset < 65536 { offset as u32 } else { 65536 }
+}
+
 // What stands behind the record at an offset, of this size.
-fn end(rest: &[u8], limit: u32, at: usize, size: usize) -> Verdict
-    requires { ⌜ («at» ≤ 7) × (size ≤ 1284) × (size ≤ length (now rest)) ⌝ }
+fn end(rest: &[u8], limit: u32, at: u32, size: usize) -> Verdict
+    requires { ⌜ «at» ≤ 65536 ⌝ }
 {
     let n = rest.len();
-    job::end(&rest[size..n], (at + size) as u32, limit)
+    let behind = shorter(size, n);
+    job::end(&rest[behind..n], at + small(behind), limit)
 }
 
 // The record at an offset, and what follows it.
-fn record(rest: &[u8], limit: u32, at: usize)
-    requires { ⌜ «at» ≤ 7 ⌝ }
+fn record(rest: &[u8], limit: u32, at: u32)
+    requires { ⌜ «at» ≤ 65536 ⌝ }
 {
     let mut line = [0u8; lines::LINE];
-    let ran = job_run::run(rest, at as u32, limit, &mut line);
+    let ran = job_run::run(rest, at, limit, &mut line);
     let n = ran.length;
     answer::text(&line[..n]);
     tell(or_else(ran.verdict, end(rest, limit, at, ran.size)));
+}
+
+// The first record of a file, where it begins.
+fn first(file: &[u8], limit: u32, next: usize) {
+    let n = file.len();
+    let from = shorter(next, n);
+    let at = small(from);
+    record(&file[from..n], limit, at);
 }
 
 pub(crate) fn print(file: &[u8]) {
@@ -42,7 +58,6 @@ pub(crate) fn print(file: &[u8]) {
     if verdict.number != 0 {
         tell(verdict);
     } else {
-        let first = opened.next;
-        record(&file[first..file.len()], opened.limit, first);
+        first(file, opened.limit, opened.next);
     }
 }
