@@ -48,7 +48,10 @@ fn within(limit: usize, size: usize, end: usize) -> Verdict
 fn reach(limit: usize, size: usize, end: usize) -> Verdict
     ensures { λ r. ⌜ r ≡ reach limit size end ⌝ }
 {
-    or_else(within(limit, size, end), check(end <= size, Fault::EndsEarly(size)))
+    or_else(
+        within(limit, size, end),
+        check(end <= size, Fault::EndsEarly(size)),
+    )
 }
 
 // What the first two bytes of a window say of the record that begins there.

@@ -68,11 +68,26 @@ fn head_verdict(file: &[u8]) -> Verdict
     let version = byte_at(file, 4);
     let count = present(file, 4 + width_of(version));
     let long = or_else(length_verdict(version, file.len()), count);
-    let low = or_else(byte_is(file, 4, is_version(version), Fault::UnknownVersion(4)), long);
-    let high = or_else(byte_is(file, 3, byte_at(file, 3) == 0, Fault::UnknownVersion(3)), low);
-    let t = or_else(byte_is(file, 2, byte_at(file, 2) == 84, Fault::WrongMark(2)), high);
-    let l = or_else(byte_is(file, 1, byte_at(file, 1) == 76, Fault::WrongMark(1)), t);
-    or_else(byte_is(file, 0, byte_at(file, 0) == 83, Fault::WrongMark(0)), l)
+    let low = or_else(
+        byte_is(file, 4, is_version(version), Fault::UnknownVersion(4)),
+        long,
+    );
+    let high = or_else(
+        byte_is(file, 3, byte_at(file, 3) == 0, Fault::UnknownVersion(3)),
+        low,
+    );
+    let t = or_else(
+        byte_is(file, 2, byte_at(file, 2) == 84, Fault::WrongMark(2)),
+        high,
+    );
+    let l = or_else(
+        byte_is(file, 1, byte_at(file, 1) == 76, Fault::WrongMark(1)),
+        t,
+    );
+    or_else(
+        byte_is(file, 0, byte_at(file, 0) == 83, Fault::WrongMark(0)),
+        l,
+    )
 }
 
 fn open_verdict(file: &[u8], line_length: usize) -> Verdict

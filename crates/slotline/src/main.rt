@@ -139,7 +139,12 @@ fn step(window: &[u8], limit: u32, out: &mut [u8], s: Stand) -> Stand
     let filled = s.filled;
     let waiting = s.waiting;
     let end = out.len();
-    let ran = job_run::run(&window[at..filled], (s.before + at) as u32, limit, &mut out[waiting..end]);
+    let ran = job_run::run(
+        &window[at..filled],
+        (s.before + at) as u32,
+        limit,
+        &mut out[waiting..end],
+    );
     let verdict = ran.verdict;
     if verdict.number != 0 {
         return refuse(out, verdict, s);

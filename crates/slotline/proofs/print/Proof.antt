@@ -26,13 +26,15 @@ unread-after-requires c κs = search needs
 
 refuse-requires : tie.Need-refuse-requires
 refuse-requires c κs =
-    let start = c .before .before .before .before .before .before .before .before .before .before .before .before .before in
-    (record {
-      cut = header-inside (start .args .filled) (now (start .args .window)) (c .before .before .before .before .before .before .before .«open» .ensures);
-      inside = start .pre .2;
-      bounded = omega (arith, c .before .before .before .before .unread-after .ensures);
-      waits = omega (arith, prints-fit (c .before .before .before .before .before .before .before .«open» .ensures .prints), c .before .before .before .before .before .before .out .given, start .pre .1);
-    }, c .before .before .before .before .before .before .out .given ∙ start .pre .1)
+    let start = c .before .before .before .before .before .before .before .before .before .before .before .before .before in (
+      record {
+        cut = header-inside (start .args .filled) (now (start .args .window)) (c .before .before .before .before .before .before .before .«open» .ensures);
+        inside = start .pre .2;
+        bounded = omega (arith, c .before .before .before .before .unread-after .ensures);
+        waits = omega (arith, prints-fit (c .before .before .before .before .before .before .before .«open» .ensures .prints), c .before .before .before .before .before .before .out .given, start .pre .1);
+      },
+      c .before .before .before .before .before .before .out .given ∙ start .pre .1,
+    )
 
 same-length : tie.Need-same-length
 same-length c = search needs
@@ -45,13 +47,16 @@ returns c = search needs
 
 records-requires : tie.Need-records-requires
 records-requires c κs =
-    let start = c .before .before .before .before .before .before .before .before .before .before .before .before .before .before in
-    (record {
-      cut = header-inside (start .args .filled) (now (start .args .window)) (c .before .before .before .before .before .before .before .before .«open» .ensures);
-      inside = start .pre .2;
-      bounded = omega (arith, c .before .before .before .before .before .unread-after .ensures);
-      waits = omega (arith, prints-fit (c .before .before .before .before .before .before .before .before .«open» .ensures .prints), c .before .before .before .before .before .before .before .out .given, start .pre .1);
-    }, start .pre .0, c .before .before .before .before .before .before .before .out .given ∙ start .pre .1)
+    let start = c .before .before .before .before .before .before .before .before .before .before .before .before .before .before in (
+      record {
+        cut = header-inside (start .args .filled) (now (start .args .window)) (c .before .before .before .before .before .before .before .before .«open» .ensures);
+        inside = start .pre .2;
+        bounded = omega (arith, c .before .before .before .before .before .unread-after .ensures);
+        waits = omega (arith, prints-fit (c .before .before .before .before .before .before .before .before .«open» .ensures .prints), c .before .before .before .before .before .before .before .out .given, start .pre .1);
+      },
+      start .pre .0,
+      c .before .before .before .before .before .before .before .out .given ∙ start .pre .1,
+    )
 
 finish-requires : tie.Need-finish-requires
 finish-requires c κs = search needs
