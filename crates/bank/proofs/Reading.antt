@@ -1,0 +1,80 @@
+-- What bytes hold: a bank's bytes are the layout of what they read as, and whatever they hold is what they read as.
+-- Assumes nothing.
+use mathlib.Core.Path.{_≡_, refl, sym, ap, _∙_}
+use mathlib.Core.Bool.{Bool, true, false, _&&_}
+use mathlib.Core.List.{List, [], _∷_, _++_, append-assoc, map}
+use Prim.Native.Nat.{ℕ, zero, suc, _+_, _≤_, _<_}
+use native.Mathlib.Omega.{arith}
+use lib.ListN.{length, take, drop, length-append, length-take, take-append-drop}
+use lib.Seq.{take-at, drop-at, take-all}
+use Rattle.run.specs.Fields.{total}
+use Rattle.run.specs.Written.{over}
+use Rattle.run.proofs.Bools.{and-left, and-right}
+use Rattle.run.proofs.Over.{over-length}
+use Rattle.bank.specs.Slots.{Slot, sizeOf, taken, isList}
+use Rattle.bank.specs.Layout.{slotBytes, run, head, layout, slotsFrom, totalIn, slotsIn, begins, isRoom, isBank}
+use Rattle.bank.specs.Exact.{Holds}
+use Rattle.bank.proofs.Laws.{both, layout-length, total-read, head-passed, slots-read, count-total, begins-take, is-begins}
+
+module _ {bytes : List ℕ} {ss : List Slot} (h : Holds bytes ss) where
+  pub holds-is : bytes ≡ layout ss ++ drop (taken ss) bytes
+  holds-is = sym (take-append-drop (taken ss) bytes) ∙ ap (λ (l : List ℕ). l ++ drop (taken ss) bytes) (h .laid)
+
+  -- the slots fit
+  pub holds-fits : taken ss ≤ length bytes
+  holds-fits =
+      let n : length (take (taken ss) bytes) ≡ taken ss = ap length (h .laid) ∙ layout-length ss in
+      omega (arith, length-take (taken ss) bytes)
+
+  pub holds-total : totalIn bytes ≡ taken ss
+  unfolding layout
+  holds-total =
+      ap totalIn (holds-is ∙ append-assoc (head (taken ss)) (run ss) (drop (taken ss) bytes))
+      ∙ total-read (taken ss) (run ss ++ drop (taken ss) bytes)
+
+  -- the bytes between the header and the total
+  pub holds-run : drop 8 (take (totalIn bytes) bytes) ≡ run ss
+  holds-run = rw (holds-total, h .laid) (head-passed ss)
+
+  pub holds-slots : slotsIn bytes ≡ ss
+  unfolding slotsIn taken
+  holds-slots =
+      let few = count-total ss in
+      let fits = holds-fits in
+      ap (slotsFrom (length bytes)) holds-run ∙ slots-read (length bytes) ss (omega arith)
+
+  pub holds-bank : isBank bytes ≡ true
+  unfolding isBank
+  holds-bank =
+      rw holds-slots
+      (both (h .room) (both (h .list) (ap (begins (layout ss)) holds-is ∙ is-begins (layout ss) (drop (taken ss) bytes))))
+
+pub bank-holds : (bytes : List ℕ) → isBank bytes ≡ true → Holds bytes (slotsIn bytes)
+unfolding isBank
+bank-holds bytes e =
+    let rest = and-right (isRoom (length bytes)) _ e in
+    let laid = begins-take (layout (slotsIn bytes)) bytes (and-right (isList (slotsIn bytes)) _ rest) in
+    record {
+      room = and-left (isRoom (length bytes)) _ e;
+      list = and-left (isList (slotsIn bytes)) _ rest;
+      laid = ap (λ (n : ℕ). take n bytes) (sym (layout-length (slotsIn bytes))) ∙ laid;
+    }
+
+-- a layout over bytes that have room for it
+pub over-layout : (ss : List Slot) (bytes : List ℕ) → taken ss ≤ length bytes → over (layout ss) bytes ≡ layout ss ++ drop (taken ss) bytes
+unfolding over
+over-layout ss bytes h =
+    let n = layout-length ss in
+    rw (take-all (length bytes) (layout ss) (omega arith), n)
+
+pub over-holds : (ss : List Slot) (bytes : List ℕ) → isList ss ≡ true → isRoom (length bytes) ≡ true → taken ss ≤ length bytes → Holds (over (layout ss) bytes) ss
+over-holds ss bytes list room h =
+    record {
+      room = rw (over-length (layout ss) bytes) room;
+      list = list;
+      laid = rw (over-layout ss bytes h) (take-at (layout ss) (drop (taken ss) bytes) (taken ss) (layout-length ss));
+    }
+
+-- what holds a list is its layout over itself
+pub holds-over : {bytes : List ℕ} {ss : List Slot} → Holds bytes ss → over (layout ss) bytes ≡ bytes
+holds-over {bytes} {ss} h = over-layout ss bytes (holds-fits h) ∙ sym (holds-is h)

@@ -1,0 +1,118 @@
+-- `bank::front_size` meets its contract: a slot stands there exactly when each test passes.
+-- Assumes nothing.
+use borrow.Author.Needs.{needs}
+use mathlib.Core.Path.{_≡_, sym, ap, _∙_}
+use mathlib.Core.Bool.{_&&_, false≢true}
+use mathlib.Core.List.{List}
+use Prim.Native.Nat.{ℕ, _+_, _-_, _≤_, _<_}
+use native.Mathlib.Omega.{arith}
+use borrow.Author.Tests.{not-false, not-true, le-leb}
+use denote.Ref.{now}
+use lib.Dec.{leb}
+use lib.ListN.{length, getD, take, drop}
+use Rattle.run.specs.First.{all, atMost}
+use Rattle.run.proofs.Bools.{and-right}
+use Rattle.run.proofs.Lent.{part-width}
+use Rattle.bank.specs.Slots.{isLength}
+use Rattle.bank.specs.Layout.{lengthIn}
+use Rattle.bank.specs.Outcome.{frontLength}
+use Rattle.bank.proofs.Front.{Slotted, length-low, length-there, length-known, digits-long, size-there, size-none}
+use Rattle.bank.proofs.front_size.Statement.{statement}
+use Rattle.bank.proofs.front_size.Tie as tie
+
+front-length-requires : tie.Need-front-length-requires
+front-length-requires c κs = search needs
+
+is-length-requires : tie.Need-is-length-requires
+is-length-requires c κs = search needs
+
+returns : tie.Need-returns
+returns c =
+    sym (size-none _ (λ f.
+    let fits = f .fits in
+    let there = length-there _ (omega arith) in
+    false≢true (sym (not-true _ (c .if1 .taken)) ∙ c .before .is-length .ensures ∙ ap isLength (c .before .before .front-length .ensures ∙ there) ∙ f .long)))
+
+add-end : tie.Need-add-end
+add-end c = omega (arith, length-low _ (sym (c .before .is-length .ensures) ∙ not-false _ (c .if1 .left)))
+
+-- the number of digits, where a slot can have it
+known : (c : tie.Else1) → c .before .before .front-length .result ≡ lengthIn (now (c .before .before .before .before .args .s))
+known c =
+    let told = c .before .before .front-length .ensures in
+    told ∙ length-known _ (ap isLength (sym told) ∙ sym (c .before .is-length .ensures) ∙ not-false _ (c .if1 .left))
+
+-- whether all digits of the part are such
+all-there : (s : List ℕ) (n : ℕ) → n ≡ lengthIn s → 4 + n ≤ length s
+    → (leb n (length (take (4 + n - 4) (drop 4 s))) && all n (atMost 2 (take (4 + n - 4) (drop 4 s)))) ≡ all (lengthIn s) (atMost 2 (take (lengthIn s) (drop 4 s)))
+all-there s n e h =
+    let long = digits-long s (rw (← e) h) in
+    rw (part-width 4 n, e, long, le-leb (lengthIn s) (lengthIn s) (omega arith))
+
+returns-2 : tie.Need-returns-2
+returns-2 c = sym (size-none _ (λ f. let fits = f .fits in let n = known (c .before) in let z : ⊥ = omega arith in z))
+
+shared-slice-read-if3 : tie.Need-shared-slice-read-if3
+shared-slice-read-if3 c = search needs
+
+returns-3 : tie.Need-returns-3
+returns-3 c = sym (size-none _ (λ f. c .if3 .taken (f .blank)))
+
+sub-all-at-most : tie.Need-sub-all-at-most
+sub-all-at-most c = search needs
+
+part-all-at-most-start : tie.Need-part-all-at-most-start
+part-all-at-most-start c = search needs
+
+part-all-at-most-end : tie.Need-part-all-at-most-end
+part-all-at-most-end c = search needs
+
+all-at-most-requires : tie.Need-all-at-most-requires
+all-at-most-requires c κs = search needs
+
+returns-4 : tie.Need-returns-4
+returns-4 c =
+    let told = c .before .all-at-most .ensures in
+    let third = c .before .before .before in
+    let second = third .before .before in
+    let first = second .before in
+    let start = first .before .before .before in
+    let s = now (start .before .args .s) in
+    let n = known first in
+    ap (λ (k : ℕ). 4 + k) n
+    ∙ sym (size-there s
+    (record {
+      number = omega (arith, start .shared-slice-known .given 0);
+      blank = third .if3 .left;
+      low = omega (arith, start .shared-slice-known .given 3);
+      long = ap isLength (sym n) ∙ sym (first .before .is-length .ensures) ∙ not-false _ (first .if1 .left);
+      fits = omega arith;
+      digits = sym (all-there s _ n (omega arith)) ∙ sym told ∙ c .if4 .taken;
+    }))
+
+returns-5 : tie.Need-returns-5
+returns-5 c =
+    let told = c .before .all-at-most .ensures in
+    let third = c .before .before .before in
+    let second = third .before .before in
+    let first = second .before in
+    let s = now (first .before .before .before .before .args .s) in
+    sym (size-none s (λ f. false≢true (sym (c .if4 .left) ∙ told ∙ all-there s _ (known first) (omega arith) ∙ f .digits)))
+
+pub front-size-spec : {M : Type 1} → statement M
+front-size-spec =
+    tie.close
+    (tie.spec
+    front-length-requires
+    is-length-requires
+    returns
+    add-end
+    returns-2
+    shared-slice-read-if3
+    returns-3
+    sub-all-at-most
+    part-all-at-most-start
+    part-all-at-most-end
+    all-at-most-requires
+    returns-4
+    returns-5)

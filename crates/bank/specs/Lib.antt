@@ -1,0 +1,4 @@
+pub mod Slots
+pub mod Layout
+pub mod Outcome
+pub mod Exact

@@ -1,0 +1,91 @@
+-- docs/RULES.md, 'Bank': what each call answers and leaves in each lent run, for all bytes. What a call leaves in the bank is the layout of the new list over the old bytes:
+-- behind the new total they are what they were.
+-- Assumes nothing.
+use Prim.Native.Nat.{ℕ, _+_, _-_}
+use mathlib.Core.Path.{_≡_}
+use mathlib.Core.Bool.{Bool, cond, not, _&&_}
+use mathlib.Core.List.{List, [], _∷_}
+use lib.Dec.{eqb, leb}
+use lib.ListN.{length}
+use Rattle.run.specs.declared.Verdict.{Verdict}
+use Rattle.run.specs.First.{atMost}
+use Rattle.run.specs.Refusals.{lengthRefused, digitRefused, rangeRefused, bankRefused, absentRefused, presentRefused, roomRefused}
+use Rattle.run.specs.Verdicts.{orElse, unless, each, leaves}
+use Rattle.run.specs.Written.{over}
+use Rattle.bank.specs.declared.Counted.{Counted}
+use Rattle.bank.specs.Slots.{Slot, has, stored, fetched, without, sizeOf, taken, isNumber, isLength, isSlot}
+use Rattle.bank.specs.Layout.{slotBytes, head, layout, lengthIn, firstSlot, totalIn, slotsIn, begins, isRoom, isBank}
+
+-- the part that looks at the header: the total that it gives, and 0 where it is none
+unfoldable pub headTotal : List ℕ → ℕ
+headTotal bytes =
+    cond (isRoom (length bytes) && (begins (head (totalIn bytes)) bytes && (leb 8 (totalIn bytes) && leb (totalIn bytes) (length bytes)))) (totalIn bytes) 0
+
+-- the parts that look at one slot: the number of digits that the front of a run gives, and 0 where it has not the four bytes in front of a slot's digits;
+-- the bytes that the slot at the front of a run takes, and 0 where no slot stands there
+unfoldable pub frontLength : List ℕ → ℕ
+frontLength s = cond (leb 4 (length s)) (lengthIn s) 0
+
+unfoldable pub frontSize : List ℕ → ℕ
+frontSize s = cond (isSlot (firstSlot s) && begins (slotBytes (firstSlot s)) s) (4 + lengthIn s) 0
+
+-- empty: 28 for the buffer's length alone
+unfoldable pub emptyVerdict : ℕ → Verdict
+emptyVerdict bankLength = unless (isRoom bankLength) bankRefused 0
+
+pub record Empty (bank : List ℕ) (answer : Verdict) (bank-after : List ℕ) : Type 0 where
+  pub verdict-is : answer ≡ emptyVerdict (length bank)
+  pub bank-is : bank-after ≡ leaves (emptyVerdict (length bank)) (over (layout []) bank) bank
+
+-- store: 28, 11 above 255, 3, 4 above 2 ..
+unfoldable pub storeHead : List ℕ → ℕ → List ℕ → Verdict
+storeHead bank number slot =
+    orElse (unless (isBank bank) bankRefused 0)
+    (orElse (unless (isNumber number) rangeRefused 0)
+    (orElse (unless (isLength (length slot)) lengthRefused 0)
+    (each 0 digitRefused (atMost 2 slot) (length slot))))
+
+-- .. 30, 31 exactly when the total taken plus the new slot plus 4 exceeds the buffer
+unfoldable pub storeVerdict : List ℕ → ℕ → List ℕ → Verdict
+storeVerdict bank number slot =
+    orElse (storeHead bank number slot)
+    (orElse (unless (not (has number (slotsIn bank))) presentRefused 0)
+    (unless (leb (taken (slotsIn bank) + (4 + length slot)) (length bank)) roomRefused 0))
+
+pub record Store (bank : List ℕ) (number : ℕ) (slot : List ℕ) (answer : Verdict) (bank-after : List ℕ) : Type 0 where
+  pub verdict-is : answer ≡ storeVerdict bank number slot
+  pub bank-is :
+      bank-after
+      ≡ leaves (storeVerdict bank number slot) (over (layout (stored (slotsIn bank) (record { number = number; digits = slot }))) bank) bank
+
+-- drop, and the length of a slot: 28, 11 above 255, 29
+unfoldable pub dropVerdict : List ℕ → ℕ → Verdict
+dropVerdict bank number =
+    orElse (unless (isBank bank) bankRefused 0)
+    (orElse (unless (isNumber number) rangeRefused 0)
+    (unless (has number (slotsIn bank)) absentRefused 0))
+
+pub record Drop (bank : List ℕ) (number : ℕ) (answer : Verdict) (bank-after : List ℕ) : Type 0 where
+  pub verdict-is : answer ≡ dropVerdict bank number
+  pub bank-is : bank-after ≡ leaves (dropVerdict bank number) (over (layout (without number (slotsIn bank))) bank) bank
+
+pub record Length (bank : List ℕ) (number : ℕ) (answer : Counted) : Type 0 where
+  pub verdict-is : answer .verdict ≡ dropVerdict bank number
+  pub count-is : answer .count ≡ leaves (dropVerdict bank number) (length (fetched number (slotsIn bank))) 0
+
+-- fetch: those, then 3 where the output has not the stored length
+unfoldable pub fetchVerdict : List ℕ → ℕ → ℕ → Verdict
+fetchVerdict bank number outLength =
+    orElse (dropVerdict bank number) (unless (eqb outLength (length (fetched number (slotsIn bank)))) lengthRefused 0)
+
+pub record Fetch (bank : List ℕ) (number : ℕ) (out : List ℕ) (answer : Verdict) (out-after : List ℕ) : Type 0 where
+  pub verdict-is : answer ≡ fetchVerdict bank number (length out)
+  pub out-is : out-after ≡ leaves (fetchVerdict bank number (length out)) (fetched number (slotsIn bank)) out
+
+-- room: 28; the buffer's length less the total taken
+unfoldable pub roomVerdict : List ℕ → Verdict
+roomVerdict bank = unless (isBank bank) bankRefused 0
+
+pub record Room (bank : List ℕ) (answer : Counted) : Type 0 where
+  pub verdict-is : answer .verdict ≡ roomVerdict bank
+  pub count-is : answer .count ≡ leaves (roomVerdict bank) (length bank - taken (slotsIn bank)) 0
