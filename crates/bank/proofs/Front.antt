@@ -14,7 +14,7 @@ use Rattle.run.proofs.Bools.{and-left, and-right}
 use Rattle.bank.specs.Slots.{isNumber, isLength, isSlot}
 use Rattle.bank.specs.Layout.{slotBytes, head, lengthIn, firstSlot, fourAt, totalIn, begins, isRoom}
 use Rattle.bank.specs.Outcome.{headTotal, frontLength, frontSize}
-use Rattle.bank.proofs.Laws.{both, slot-length, length-read, begins-is, is-begins}
+use Rattle.bank.proofs.Laws.{both, slot-length, head-length, length-read, begins-take, begins-is, is-begins}
 
 -- what a length that a slot can have is below
 pub length-low : (n : ℕ) → isLength n ≡ true → (10 ≤ n) × (n ≤ 1280)
@@ -69,7 +69,7 @@ module _ (s : List ℕ) where
       side false t h = absurd (false≢true h)
 
   -- the test that the definition makes, and what it comes to
-  pub stands : Bool
+  abbrev pub stands : Bool
   stands = isSlot (firstSlot s) && begins (slotBytes (firstSlot s)) s
 
   blank-of : (rest : List ℕ) → getD (slotBytes (firstSlot s) ++ rest) 1 0 ≡ 0
@@ -81,7 +81,7 @@ module _ (s : List ℕ) where
   low-of rest = refl
 
   pub stands-slotted : stands ≡ true → Slotted
-  unfolding stands isSlot firstSlot
+  unfolding isSlot firstSlot
   stands-slotted e =
       let slot = and-left (isSlot (firstSlot s)) _ e in
       let is : s ≡ slotBytes (firstSlot s) ++ drop (length (slotBytes (firstSlot s))) s = begins-is (slotBytes (firstSlot s)) s (and-right (isSlot (firstSlot s)) _ e) in
@@ -111,7 +111,7 @@ module _ (s : List ℕ) where
       four-first (omega arith) ∙ rw (n, high, low, f .blank, take-append-drop (256 * getD s 2 0 + getD s 3 0) (drop 4 s))
 
   pub slotted-stands : Slotted → stands ≡ true
-  unfolding stands isSlot firstSlot
+  unfolding isSlot firstSlot
   slotted-stands f =
       let n = digits-long (f .fits) in
       both
@@ -119,12 +119,29 @@ module _ (s : List ℕ) where
       (ap (begins (slotBytes (firstSlot s))) (slotted-is f) ∙ is-begins (slotBytes (firstSlot s)) (drop (lengthIn s) (drop 4 s)))
 
   pub size-there : Slotted → frontSize s ≡ 4 + lengthIn s
-  unfolding frontSize stands
+  unfolding frontSize
   size-there f = chosen (4 + lengthIn s) 0 (slotted-stands f)
 
   pub size-none : (Slotted → ⊥) → frontSize s ≡ 0
-  unfolding frontSize stands
+  unfolding frontSize
   size-none never = not-chosen (4 + lengthIn s) 0 stands (λ e. never (stands-slotted e))
+
+  -- the size that was told is 0 exactly where none stands there
+  pub size-stands : (frontSize s ≡ 0 → ⊥) → stands ≡ true
+  unfolding frontSize
+  size-stands some = side stands some
+    where
+      side : (b : Bool) → (cond b (4 + lengthIn s) 0 ≡ 0 → ⊥) → b ≡ true
+      side true h = refl
+      side false h = absurd (h refl)
+
+  pub none-stands : frontSize s ≡ 0 → stands ≡ false
+  unfolding frontSize
+  none-stands e = side stands e
+    where
+      side : (b : Bool) → cond b (4 + lengthIn s) 0 ≡ 0 → b ≡ false
+      side true h = absurd (let z : ⊥ = omega arith in z)
+      side false h = refl
 
   -- ---- a header
   pub record Headed : Type 0 where
@@ -133,7 +150,7 @@ module _ (s : List ℕ) where
     pub low : 8 ≤ totalIn s
     pub fits : totalIn s ≤ length s
 
-  pub heads : Bool
+  abbrev pub heads : Bool
   heads = isRoom (length s) && (begins (head (totalIn s)) s && (leb 8 (totalIn s) && leb (totalIn s) (length s)))
 
   mark-of : (rest : List ℕ) → fourAt (head (totalIn s) ++ rest) 0 ≡ 1397511234
@@ -141,7 +158,6 @@ module _ (s : List ℕ) where
   mark-of rest = refl
 
   pub heads-headed : heads ≡ true → Headed
-  unfolding heads
   heads-headed e =
       let more = and-right (isRoom (length s)) _ e in
       let last = and-right (begins (head (totalIn s)) s) _ more in
@@ -196,16 +212,34 @@ module _ (s : List ℕ) where
         eight a b c d e f g h = λ i. a i ∷ b i ∷ c i ∷ d i ∷ e i ∷ f i ∷ g i ∷ h i ∷ drop 8 s
 
     headed-heads : Headed → heads ≡ true
-    unfolding heads
     headed-heads f =
         both (f .room)
         (both (ap (begins (head (totalIn s))) (headed-is f) ∙ is-begins (head (totalIn s)) (drop 8 s))
         (both (le-leb _ _ (f .low)) (le-leb _ _ (f .fits))))
 
     pub total-there : Headed → headTotal s ≡ totalIn s
-    unfolding headTotal heads
+    unfolding headTotal
     total-there f = chosen (totalIn s) 0 (headed-heads f)
 
   pub total-none : (Headed → ⊥) → headTotal s ≡ 0
-  unfolding headTotal heads
+  unfolding headTotal
   total-none never = not-chosen (totalIn s) 0 heads (λ e. never (heads-headed e))
+
+  -- the same of the total
+  pub heads-total : heads ≡ true → headTotal s ≡ totalIn s
+  unfolding headTotal
+  heads-total e = chosen (totalIn s) 0 e
+
+  pub total-heads : (headTotal s ≡ 0 → ⊥) → heads ≡ true
+  unfolding headTotal
+  total-heads some = side heads some
+    where
+      side : (b : Bool) → (cond b (totalIn s) 0 ≡ 0 → ⊥) → b ≡ true
+      side true h = refl
+      side false h = absurd (h refl)
+
+  -- a header's bytes are those of its total
+  pub heads-is : heads ≡ true → take 8 s ≡ head (totalIn s)
+  heads-is e =
+      let more = and-right (isRoom (length s)) _ e in
+      ap (λ (n : ℕ). take n s) (sym (head-length (totalIn s))) ∙ begins-take (head (totalIn s)) s (and-left (begins (head (totalIn s)) s) _ more)

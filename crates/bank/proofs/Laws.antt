@@ -3,13 +3,13 @@
 use mathlib.Core.Path.{_≡_, refl, sym, ap, _∙_}
 use mathlib.Core.Bool.{Bool, true, false, _&&_}
 use mathlib.Core.List.{List, [], _∷_, _++_, append-assoc, map}
-use Prim.Native.Nat.{ℕ, zero, suc, _+_, _≤_, _<_}
+use Prim.Native.Nat.{ℕ, zero, suc, _+_, _-_, _≤_, _<_}
 use native.Mathlib.Nat.{not-suc-le-zero, le-of-suc-le-suc}
 use native.Mathlib.Omega.{arith}
 use borrow.Author.Tests.{leb-true, le-leb, eqb-true, eq-eqb}
 use lib.Dec.{leb}
 use lib.ListN.{length, getD, take, drop, length-append, take-append-drop, List·getD-append}
-use lib.Seq.{take-at, drop-at, length-take-le, getD-take, ext-getD}
+use lib.Seq.{take-at, drop-at, take-add, length-take-le, getD-take, ext-getD}
 use Rattle.run.specs.First.{agree}
 use Rattle.run.specs.Fields.{total, joined}
 use Rattle.run.proofs.Bools.{and-left, and-right}
@@ -105,9 +105,8 @@ pub total-read : (n : ℕ) (rest : List ℕ) → totalIn (head n ++ rest) ≡ n
 unfolding totalIn fourAt head
 total-read n rest = omega arith
 
-pub head-passed : (ss : List Slot) → drop 8 (layout ss) ≡ run ss
-unfolding layout
-head-passed ss = drop-at (head (taken ss)) (run ss) 8 (head-length (taken ss))
+pub head-passed : (n : ℕ) (rest : List ℕ) → drop 8 (head n ++ rest) ≡ rest
+head-passed n rest = drop-at (head n) rest 8 (head-length n)
 
 -- ---- a run that begins with another
 pub begins-take : (s t : List ℕ) → begins s t ≡ true → take (length s) t ≡ s
@@ -128,3 +127,11 @@ is-begins s rest =
     let n = length-append s rest in
     both (le-leb (length s) (length (s ++ rest)) (omega arith))
     (every-all (length s) (agree s (s ++ rest)) (λ k h. eq-eqb _ _ (sym (List·getD-append s rest 0 k h))))
+
+-- what is left of the front of a run
+pub drop-take : (k n : ℕ) (l : List ℕ) → k ≤ n → n ≤ length l → drop k (take n l) ≡ take (n - k) (drop k l)
+drop-take k n l h w =
+    let e : k + (n - k) ≡ n = omega arith in
+    ap (λ (j : ℕ). drop k (take j l)) (sym e)
+    ∙ ap (drop k) (take-add k (n - k) l)
+    ∙ drop-at (take k l) (take (n - k) (drop k l)) k (length-take-le k l (omega arith))

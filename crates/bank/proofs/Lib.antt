@@ -1,3 +1,3 @@
 pub mod Laws
-pub mod Reading
 pub mod Front
+pub mod Reading

@@ -3,8 +3,9 @@
 use mathlib.Core.Path.{_≡_, refl, sym, ap, _∙_}
 use mathlib.Core.Bool.{Bool, true, false, _&&_}
 use mathlib.Core.List.{List, [], _∷_, _++_, append-assoc, map}
-use Prim.Native.Nat.{ℕ, zero, suc, _+_, _≤_, _<_}
+use Prim.Native.Nat.{ℕ, zero, suc, _+_, _-_, _≤_, _<_}
 use native.Mathlib.Omega.{arith}
+use borrow.Author.Tests.{le-leb}
 use lib.ListN.{length, take, drop, length-append, length-take, take-append-drop}
 use lib.Seq.{take-at, drop-at, take-all}
 use Rattle.run.specs.Fields.{total}
@@ -14,7 +15,8 @@ use Rattle.run.proofs.Over.{over-length}
 use Rattle.bank.specs.Slots.{Slot, sizeOf, taken, isList}
 use Rattle.bank.specs.Layout.{slotBytes, run, head, layout, slotsFrom, totalIn, slotsIn, begins, isRoom, isBank}
 use Rattle.bank.specs.Exact.{Holds}
-use Rattle.bank.proofs.Laws.{both, layout-length, total-read, head-passed, slots-read, count-total, begins-take, is-begins}
+use Rattle.bank.proofs.Front.{heads}
+use Rattle.bank.proofs.Laws.{both, layout-length, run-length, total-read, head-passed, slots-read, count-total, begins-take, is-begins}
 
 module _ {bytes : List ℕ} {ss : List Slot} (h : Holds bytes ss) where
   pub holds-is : bytes ≡ layout ss ++ drop (taken ss) bytes
@@ -26,15 +28,22 @@ module _ {bytes : List ℕ} {ss : List Slot} (h : Holds bytes ss) where
       let n : length (take (taken ss) bytes) ≡ taken ss = ap length (h .laid) ∙ layout-length ss in
       omega (arith, length-take (taken ss) bytes)
 
-  pub holds-total : totalIn bytes ≡ taken ss
+  -- .. behind a header
+  pub holds-head : bytes ≡ head (taken ss) ++ (run ss ++ drop (taken ss) bytes)
   unfolding layout
-  holds-total =
-      ap totalIn (holds-is ∙ append-assoc (head (taken ss)) (run ss) (drop (taken ss) bytes))
-      ∙ total-read (taken ss) (run ss ++ drop (taken ss) bytes)
+  holds-head = holds-is ∙ append-assoc (head (taken ss)) (run ss) (drop (taken ss) bytes)
+
+  pub holds-total : totalIn bytes ≡ taken ss
+  holds-total = ap totalIn holds-head ∙ total-read (taken ss) (run ss ++ drop (taken ss) bytes)
 
   -- the bytes between the header and the total
-  pub holds-run : drop 8 (take (totalIn bytes) bytes) ≡ run ss
-  holds-run = rw (holds-total, h .laid) (head-passed ss)
+  pub holds-run : take (totalIn bytes - 8) (drop 8 bytes) ≡ run ss
+  unfolding taken
+  holds-run =
+      let n = run-length ss in
+      let t = holds-total in
+      ap (λ (l : List ℕ). take (totalIn bytes - 8) l) (ap (drop 8) holds-head ∙ head-passed (taken ss) (run ss ++ drop (taken ss) bytes))
+      ∙ take-at (run ss) (drop (taken ss) bytes) (totalIn bytes - 8) (omega arith)
 
   pub holds-slots : slotsIn bytes ≡ ss
   unfolding slotsIn taken
@@ -42,6 +51,16 @@ module _ {bytes : List ℕ} {ss : List Slot} (h : Holds bytes ss) where
       let few = count-total ss in
       let fits = holds-fits in
       ap (slotsFrom (length bytes)) holds-run ∙ slots-read (length bytes) ss (omega arith)
+
+  -- the header stands in front
+  pub holds-heads : heads bytes ≡ true
+  unfolding taken
+  holds-heads =
+      let t = holds-total in
+      let fits = holds-fits in
+      both (h .room)
+      (both (ap (λ (n : ℕ). begins (head n) bytes) t ∙ ap (begins (head (taken ss))) holds-head ∙ is-begins (head (taken ss)) (run ss ++ drop (taken ss) bytes))
+      (both (le-leb 8 (totalIn bytes) (omega arith)) (le-leb (totalIn bytes) (length bytes) (omega arith))))
 
   pub holds-bank : isBank bytes ≡ true
   unfolding isBank

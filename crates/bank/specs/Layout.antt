@@ -1,6 +1,6 @@
 -- docs/BANK.md, 'Layout': the bytes of a list of slots, and what bytes read as.
 -- Assumes nothing.
-use Prim.Native.Nat.{ℕ, zero, suc, _+_, _*_, _/_, _%_}
+use Prim.Native.Nat.{ℕ, zero, suc, _+_, _-_, _*_, _/_, _%_}
 use mathlib.Core.Bool.{Bool, _&&_}
 use mathlib.Core.List.{List, [], _∷_, _++_, map}
 use lib.Dec.{leb}
@@ -45,7 +45,7 @@ unfoldable pub totalIn : List ℕ → ℕ
 totalIn bytes = fourAt bytes 4
 
 unfoldable pub slotsIn : List ℕ → List Slot
-slotsIn bytes = slotsFrom (length bytes) (drop 8 (take (totalIn bytes) bytes))
+slotsIn bytes = slotsFrom (length bytes) (take (totalIn bytes - 8) (drop 8 bytes))
 
 -- t begins with s
 unfoldable pub begins : List ℕ → List ℕ → Bool
