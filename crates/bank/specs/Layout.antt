@@ -1,13 +1,13 @@
 -- docs/BANK.md, 'Layout': the bytes of a list of slots, and what bytes read as.
 -- Assumes nothing.
 use Prim.Native.Nat.{ℕ, zero, suc, _+_, _-_, _*_, _/_, _%_}
-use mathlib.Core.Bool.{Bool, _&&_}
+use mathlib.Core.Bool.{Bool, cond, _&&_}
 use mathlib.Core.List.{List, [], _∷_, _++_, map}
-use lib.Dec.{leb}
+use lib.Dec.{eqb, leb}
 use lib.ListN.{length, getD, take, drop}
 use Rattle.run.specs.First.{all, agree}
 use Rattle.run.specs.Fields.{joined}
-use Rattle.bank.specs.Slots.{Slot, taken, isList}
+use Rattle.bank.specs.Slots.{Slot, sizeOf, taken, isList}
 
 -- a slot: its number, a zero byte, the number of its digits with the high byte first, the digits
 unfoldable pub slotBytes : Slot → List ℕ
@@ -58,3 +58,11 @@ isRoom n = leb 8 n && leb n 65536
 -- the bytes are a bank: what they read as is a list that a bank can hold, and they begin with its layout. What stands behind it is not looked at
 unfoldable pub isBank : List ℕ → Bool
 isBank bytes = isRoom (length bytes) && (isList (slotsIn bytes) && begins (layout (slotsIn bytes)) bytes)
+
+-- where the slot with a number begins, in slots of which the first begins at a place; where they end if none has it
+unfoldable pub placeFrom : ℕ → ℕ → List Slot → ℕ
+placeFrom k place [] = place
+placeFrom k place (s ∷ ss) = cond (eqb (s .number) k) place (placeFrom k (place + sizeOf s) ss)
+
+abbrev pub placeOf : ℕ → List Slot → ℕ
+placeOf k ss = placeFrom k 8 ss

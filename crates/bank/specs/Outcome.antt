@@ -13,8 +13,9 @@ use Rattle.run.specs.Refusals.{lengthRefused, digitRefused, rangeRefused, bankR
 use Rattle.run.specs.Verdicts.{orElse, unless, each, leaves}
 use Rattle.run.specs.Written.{over}
 use Rattle.bank.specs.declared.Counted.{Counted}
+use Rattle.bank.specs.declared.Found.{Found}
 use Rattle.bank.specs.Slots.{Slot, has, stored, fetched, without, sizeOf, taken, isNumber, isLength, isSlot}
-use Rattle.bank.specs.Layout.{slotBytes, head, layout, lengthIn, firstSlot, totalIn, slotsIn, begins, isRoom, isBank}
+use Rattle.bank.specs.Layout.{slotBytes, head, layout, lengthIn, firstSlot, totalIn, slotsIn, begins, isRoom, isBank, placeOf}
 
 -- the part that looks at the header: the total that it gives, and 0 where it is none
 unfoldable pub headTotal : List ℕ → ℕ
@@ -28,6 +29,12 @@ frontLength s = cond (leb 4 (length s)) (lengthIn s) 0
 
 unfoldable pub frontSize : List ℕ → ℕ
 frontSize s = cond (isSlot (firstSlot s) && begins (slotBytes (firstSlot s)) s) (4 + lengthIn s) 0
+
+-- the part that looks for a slot: the total taken, where the slot with the number begins, and how many digits it has (none where there is no such slot); all 0 where the bytes are no bank
+pub record Find (bank : List ℕ) (number : ℕ) (answer : Found) : Type 0 where
+  pub total-is : answer .total ≡ cond (isBank bank) (taken (slotsIn bank)) 0
+  pub start-is : answer .start ≡ cond (isBank bank) (placeOf number (slotsIn bank)) 0
+  pub length-is : answer .length ≡ cond (isBank bank) (length (fetched number (slotsIn bank))) 0
 
 -- empty: 28 for the buffer's length alone
 unfoldable pub emptyVerdict : ℕ → Verdict

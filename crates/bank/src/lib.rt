@@ -15,6 +15,13 @@ pub struct Counted {
     pub count: usize,
 }
 
+// What the search for a slot answers: the total taken, where the slot begins and how many digits it has.
+pub struct Found {
+    pub total: usize,
+    pub start: usize,
+    pub length: usize,
+}
+
 // The mark SLTB as the number of its four bytes, high byte first.
 const MARK: usize = 1397511234;
 
