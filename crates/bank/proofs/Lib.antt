@@ -2,3 +2,4 @@ pub mod Laws
 pub mod Front
 pub mod Reading
 pub mod Split
+pub mod Calls

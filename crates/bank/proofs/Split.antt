@@ -1,22 +1,21 @@
 -- A list of slots taken apart at the slot with a number, and the bytes from there on.
 -- Assumes nothing.
 use mathlib.Core.Path.{_≡_, refl, sym, ap, _∙_}
-use mathlib.Core.Bool.{Bool, true, false, cond, not, _&&_, _||_, false≢true}
-use mathlib.Core.List.{List, [], _∷_, _++_, append-assoc, append-nil, map}
-use Prim.Native.Nat.{ℕ, _+_, _-_, _≤_, _<_}
+use mathlib.Core.Bool.{Bool, true, false, not, _||_, false≢true}
+use mathlib.Core.List.{List, [], _∷_, _++_, append-assoc, map}
+use Prim.Native.Nat.{ℕ, _+_, _-_}
 use native.Mathlib.Omega.{arith}
-use borrow.Author.Tests.{eqb-true, leb-true, eqb-false, ne-eqb, not-true}
-use lib.Dec.{eqb, leb}
+use borrow.Author.Tests.{eqb-true, lt-ltb}
+use lib.Dec.{eqb, ltb}
 use lib.ListN.{length, take, drop, length-append}
-use lib.Seq.{take-at, drop-at}
+use lib.Seq.{take-at, drop-at, drop-drop}
 use Rattle.run.specs.Fields.{total}
-use Rattle.run.specs.First.{all, atMost}
 use Rattle.run.proofs.Bools.{and-left, and-right}
 use Rattle.bank.specs.Slots.{Slot, has, fetched, without, sizeOf, taken, isNumber, isLength, isSlot, isList}
-use Rattle.bank.specs.Layout.{run, head, layout, placeFrom, placeOf}
+use Rattle.bank.specs.Layout.{slotBytes, run, head, layout, placeFrom, placeOf}
 use Rattle.bank.specs.Exact.{Holds}
 use Rattle.bank.proofs.Front.{length-low}
-use Rattle.bank.proofs.Laws.{run-append, run-length, head-length, taken-append}
+use Rattle.bank.proofs.Laws.{run-cons, run-append, run-length, head-length, taken-append}
 use Rattle.bank.proofs.Reading.{holds-is}
 
 -- ---- bytes that hold two lists one behind the other: the second begins at the total of the first
@@ -136,13 +135,41 @@ unfolding isSlot
 slot-long s e = and-left (isLength (length (s .digits))) _ (and-right (isNumber (s .number)) _ e)
 
 -- a slot has digits: so a number is there exactly where it has some
-pub has-digits : (k : ℕ) (ss : List Slot) → isList ss ≡ true → has k ss ≡ not (eqb (length (fetched k ss)) 0)
+pub has-digits : (k : ℕ) (ss : List Slot) → isList ss ≡ true → has k ss ≡ ltb 0 (length (fetched k ss))
 has-digits k ss list = side (has k ss) refl
   where
-    side : (b : Bool) → has k ss ≡ b → b ≡ not (eqb (length (fetched k ss)) 0)
+    side : (b : Bool) → has k ss ≡ b → b ≡ ltb 0 (length (fetched k ss))
     side true e =
         let p = present k ss e in
         let low = length-low _ (slot-long (p .slot) (list-slot (p .before) (p .slot) (p .behind) (ap isList (sym (p .whole)) ∙ list))) .0 in
         let n : length (fetched k ss) ≡ length (p .slot .digits) = ap length (p .fetched-is) in
-        sym (ap not (ne-eqb (length (fetched k ss)) 0 (λ z. let w : ⊥ = omega arith in w)))
-    side false e = sym (ap (λ (l : List ℕ). not (eqb (length l) 0)) (absent k ss e .fetched-none))
+        sym (lt-ltb 0 (length (fetched k ss)) (omega arith))
+    side false e = sym (ap (λ (l : List ℕ). ltb 0 (length l)) (absent k ss e .fetched-none))
+
+-- ---- the slot with a number, in the bytes that hold it
+module _ {bytes : List ℕ} {k : ℕ} {ss : List Slot} (h : Holds bytes ss) (p : Present k ss) where
+  abbrev Split : Type 0
+  Split = Holds bytes (p .before ++ p .slot ∷ p .behind)
+
+  pub split-holds : Split
+  split-holds = rw (p .whole) at h
+
+  pub start-is : placeOf k ss ≡ taken (p .before)
+  unfolding taken
+  start-is = p .place-is 8
+
+  pub split-taken : taken ss ≡ taken (p .before) + (4 + length (p .slot .digits) + total (map sizeOf (p .behind)))
+  unfolding total
+  split-taken = ap taken (p .whole) ∙ taken-append (p .before) (p .slot ∷ p .behind)
+
+  pub slot-there : take (length (p .slot .digits)) (drop (taken (p .before) + 4) bytes) ≡ p .slot .digits
+  unfolding slotBytes
+  slot-there =
+      let rest : List ℕ = run (p .behind) ++ drop (taken (p .before ++ p .slot ∷ p .behind)) bytes in
+      ap (take (length (p .slot .digits)))
+      (sym (drop-drop 4 (taken (p .before)) bytes)
+      ∙ ap (drop 4)
+      (holds-rest (p .before) (p .slot ∷ p .behind) split-holds
+      ∙ ap (λ (l : List ℕ). l ++ drop (taken (p .before ++ p .slot ∷ p .behind)) bytes) (run-cons (p .slot) (p .behind))
+      ∙ append-assoc (slotBytes (p .slot)) (run (p .behind)) (drop (taken (p .before ++ p .slot ∷ p .behind)) bytes)))
+      ∙ take-at (p .slot .digits) rest (length (p .slot .digits)) refl

@@ -30,12 +30,6 @@ frontLength s = cond (leb 4 (length s)) (lengthIn s) 0
 unfoldable pub frontSize : List ℕ → ℕ
 frontSize s = cond (isSlot (firstSlot s) && begins (slotBytes (firstSlot s)) s) (4 + lengthIn s) 0
 
--- the part that looks for a slot: the total taken, where the slot with the number begins, and how many digits it has (none where there is no such slot); all 0 where the bytes are no bank
-pub record Find (bank : List ℕ) (number : ℕ) (answer : Found) : Type 0 where
-  pub total-is : answer .total ≡ cond (isBank bank) (taken (slotsIn bank)) 0
-  pub start-is : answer .start ≡ cond (isBank bank) (placeOf number (slotsIn bank)) 0
-  pub length-is : answer .length ≡ cond (isBank bank) (length (fetched number (slotsIn bank))) 0
-
 -- empty: 28 for the buffer's length alone
 unfoldable pub emptyVerdict : ℕ → Verdict
 emptyVerdict bankLength = unless (isRoom bankLength) bankRefused 0
@@ -44,20 +38,15 @@ pub record Empty (bank : List ℕ) (answer : Verdict) (bank-after : List ℕ) : 
   pub verdict-is : answer ≡ emptyVerdict (length bank)
   pub bank-is : bank-after ≡ leaves (emptyVerdict (length bank)) (over (layout []) bank) bank
 
--- store: 28, 11 above 255, 3, 4 above 2 ..
-unfoldable pub storeHead : List ℕ → ℕ → List ℕ → Verdict
-storeHead bank number slot =
+-- store: 28, 11 above 255, 3 for a slot's length, 4 above 2, 30, 31 exactly when the total taken plus the new slot plus 4 exceeds the buffer
+unfoldable pub storeVerdict : List ℕ → ℕ → List ℕ → Verdict
+storeVerdict bank number slot =
     orElse (unless (isBank bank) bankRefused 0)
     (orElse (unless (isNumber number) rangeRefused 0)
     (orElse (unless (isLength (length slot)) lengthRefused 0)
-    (each 0 digitRefused (atMost 2 slot) (length slot))))
-
--- .. 30, 31 exactly when the total taken plus the new slot plus 4 exceeds the buffer
-unfoldable pub storeVerdict : List ℕ → ℕ → List ℕ → Verdict
-storeVerdict bank number slot =
-    orElse (storeHead bank number slot)
+    (orElse (each 0 digitRefused (atMost 2 slot) (length slot))
     (orElse (unless (not (has number (slotsIn bank))) presentRefused 0)
-    (unless (leb (taken (slotsIn bank) + (4 + length slot)) (length bank)) roomRefused 0))
+    (unless (leb (taken (slotsIn bank) + (4 + length slot)) (length bank)) roomRefused 0)))))
 
 pub record Store (bank : List ℕ) (number : ℕ) (slot : List ℕ) (answer : Verdict) (bank-after : List ℕ) : Type 0 where
   pub verdict-is : answer ≡ storeVerdict bank number slot
@@ -71,6 +60,14 @@ dropVerdict bank number =
     orElse (unless (isBank bank) bankRefused 0)
     (orElse (unless (isNumber number) rangeRefused 0)
     (unless (has number (slotsIn bank)) absentRefused 0))
+
+-- the part that looks for a slot: those checks, the total taken, where the slot with the number begins, and how many digits it has (none where there is no such slot); all 0 where the
+-- bytes are no bank
+pub record Find (bank : List ℕ) (number : ℕ) (answer : Found) : Type 0 where
+  pub verdict-is : answer .verdict ≡ dropVerdict bank number
+  pub total-is : answer .total ≡ cond (isBank bank) (taken (slotsIn bank)) 0
+  pub start-is : answer .start ≡ cond (isBank bank) (placeOf number (slotsIn bank)) 0
+  pub length-is : answer .length ≡ cond (isBank bank) (length (fetched number (slotsIn bank))) 0
 
 pub record Drop (bank : List ℕ) (number : ℕ) (answer : Verdict) (bank-after : List ℕ) : Type 0 where
   pub verdict-is : answer ≡ dropVerdict bank number

@@ -15,8 +15,9 @@ pub struct Counted {
     pub count: usize,
 }
 
-// What the search for a slot answers: the total taken, where the slot begins and how many digits it has.
+// What the search for a slot answers: whether it is there, the total taken, where the slot begins and how many digits it has.
 pub struct Found {
+    pub verdict: Verdict,
     pub total: usize,
     pub start: usize,
     pub length: usize,
