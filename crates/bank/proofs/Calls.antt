@@ -17,8 +17,8 @@ use Rattle.bank.specs.Slots.{Slot, has, fetched, taken, isNumber, isLeng
 use Rattle.bank.specs.Layout.{slotsIn, isRoom, isBank}
 use Rattle.bank.specs.Outcome.{storeVerdict, dropVerdict, Find, fetchVerdict}
 use Rattle.bank.specs.Exact.{Holds}
-use Rattle.bank.proofs.Reading.{bank-holds}
-use Rattle.bank.proofs.Split.{has-digits}
+use Rattle.bank.proofs.Reading.{bank-holds, holds-fits}
+use Rattle.bank.proofs.Split.{has-digits, Present, present, start-is, split-taken}
 
 -- ---- a check of the bytes, and the rest of a chain, which is asked only where they are a bank
 unless-bank : (bytes : List ℕ) (v w : Verdict) → (isBank bytes ≡ true → v ≡ w) → orElse (unless (isBank bytes) 28 0) v ≡ orElse (unless (isBank bytes) 28 0) w
@@ -166,3 +166,30 @@ module _ (bytes : List ℕ) (number : ℕ) where
     where
       new-is : isBank bytes ≡ true → eqb (found .length) 0 ≡ not (has number (slotsIn bytes))
       new-is e = none (found .length) ∙ ap not (sym (found-has bytes number found f e))
+
+-- ---- where the slot stands that was found
+pub record FoundSlot (bytes : List ℕ) (number : ℕ) (found : Found) : Type 0 where
+  pub holds : Holds bytes (slotsIn bytes)
+  pub at-slot : Present number (slotsIn bytes)
+  pub start-at : found .start ≡ taken (at-slot .before)
+  pub digits-are : found .length ≡ length (at-slot .slot .digits)
+  pub total-told : found .total ≡ taken (slotsIn bytes)
+  pub within : found .start + (4 + found .length) ≤ found .total
+  pub fits : found .total ≤ length bytes
+
+pub found-slot : (bytes : List ℕ) (number : ℕ) (found : Found) → Find bytes number found → Dropping bytes number → FoundSlot bytes number found
+found-slot bytes number found f d =
+    let h = bank-holds bytes (d .bank) in
+    let p = present number (slotsIn bytes) (d .there) in
+    let start : found .start ≡ taken (p .before) = f .start-is ∙ rw (d .bank) (start-is h p) in
+    let digits : found .length ≡ length (p .slot .digits) = found-length bytes number found f (d .bank) ∙ ap length (p .fetched-is) in
+    let all = found-total bytes number found f (d .bank) in
+    record {
+      holds = h;
+      at-slot = p;
+      start-at = start;
+      digits-are = digits;
+      total-told = all;
+      within = omega (arith, split-taken h p);
+      fits = omega (arith, holds-fits h);
+    }
