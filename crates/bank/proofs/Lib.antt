@@ -3,3 +3,4 @@ pub mod Front
 pub mod Reading
 pub mod Split
 pub mod Calls
+pub mod Change
