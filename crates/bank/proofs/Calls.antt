@@ -17,6 +17,7 @@ use Rattle.bank.specs.Slots.{Slot, has, fetched, taken, isNumber, isLeng
 use Rattle.bank.specs.Layout.{slotsIn, isRoom, isBank}
 use Rattle.bank.specs.Outcome.{storeVerdict, dropVerdict, Find, fetchVerdict}
 use Rattle.bank.specs.Exact.{Holds}
+use Rattle.bank.proofs.Front.{room-low}
 use Rattle.bank.proofs.Reading.{bank-holds, holds-fits}
 use Rattle.bank.proofs.Split.{has-digits, Present, present, start-is, split-taken}
 
@@ -38,6 +39,14 @@ total-bank bytes number found f = ap (ltb 0) (f .total-is) ∙ side (isBank byte
     side : (b : Bool) → ltb 0 (cond b (taken (slotsIn bytes)) 0) ≡ b
     side true = lt-ltb 0 (taken (slotsIn bytes)) (omega arith)
     side false = refl
+
+-- .. and is within the buffer
+pub total-low : (bytes : List ℕ) (number : ℕ) (found : Found) → Find bytes number found → found .total ≤ 65536
+total-low bytes number found f = rw (f .total-is) (side (isBank bytes) refl)
+  where
+    side : (b : Bool) → isBank bytes ≡ b → cond b (taken (slotsIn bytes)) 0 ≤ 65536
+    side true e = let h = bank-holds bytes e in omega (arith, holds-fits h, room-low (length bytes) (h .room))
+    side false e = omega arith
 
 module _ (bytes : List ℕ) (number : ℕ) (found : Found) (f : Find bytes number found) (e : isBank bytes ≡ true) where
   pub found-total : found .total ≡ taken (slotsIn bytes)

@@ -1,77 +1,80 @@
+-- `bank_store::store_verdict` meets its contract: the chain of checks is the definition's, in terms of what the search found.
+-- Assumes nothing.
 use borrow.Author.Needs.{needs}
+use mathlib.Core.Path.{_≡_, sym, ap, _∙_}
+use mathlib.Core.Bool.{Bool, true, false, cond}
+use mathlib.Core.List.{List}
+use Prim.Native.Nat.{ℕ, _≤_}
+use native.Mathlib.Omega.{arith}
+use lib.ListN.{length}
+use Rattle.run.specs.Verdicts.{unless}
+use Rattle.run.proofs.Chain.{or-else-is, each-is}
+use Rattle.bank.specs.Slots.{taken}
+use Rattle.bank.specs.Layout.{slotsIn, isBank}
+use Rattle.bank.proofs.Front.{room-low}
+use Rattle.bank.proofs.Reading.{bank-holds, holds-fits}
+use Rattle.bank.proofs.Calls.{total-low, store-verdict}
 use Rattle.bank_store.proofs.store_verdict.Statement.{statement}
 use Rattle.bank_store.proofs.store_verdict.Tie as tie
-use Rattle.bank_store.proofs.store_verdict.Reads as reads
-use Rattle.bank_store.proofs.store_verdict.Lts as lts
-use Rattle.bank.proofs.is_length.Reads as is-length-reads
-use Rattle.run.proofs.found.Reads as found-reads
-use Rattle.run.proofs.or_else.Reads as or-else-reads
-use Rattle.run.proofs.unless.Reads as unless-reads
-use Rattle.scan.proofs.first_above.Reads as first-above-reads
 
--- src/lib.rt:37:18
 add-unless : tie.Need-add-unless
 add-unless c = search needs
 
--- src/lib.rt:37:9
 add-unless-2 : tie.Need-add-unless-2
-add-unless-2 c = ?
+add-unless-2 c = omega (arith, total-low _ _ _ (c .before .before .pre))
 
--- src/lib.rt:36:9
 unless-requires : tie.Need-unless-requires
 unless-requires c κs = search needs
 
--- src/lib.rt:41:23
 unless-requires-2 : tie.Need-unless-requires-2
 unless-requires-2 c κs = search needs
 
--- src/lib.rt:41:9
 or-else-requires : tie.Need-or-else-requires
 or-else-requires c κs = search needs
 
--- src/lib.rt:43:21
 first-above-requires : tie.Need-first-above-requires
 first-above-requires c κs = search needs
 
--- src/lib.rt:43:9
 found-requires : tie.Need-found-requires
 found-requires c κs = search needs
 
--- src/lib.rt:42:9
 or-else-requires-2 : tie.Need-or-else-requires-2
 or-else-requires-2 c κs = search needs
 
--- src/lib.rt:46:33
 is-length-requires : tie.Need-is-length-requires
 is-length-requires c κs = search needs
 
--- src/lib.rt:46:26
 unless-requires-3 : tie.Need-unless-requires-3
 unless-requires-3 c κs = search needs
 
--- src/lib.rt:46:9
 or-else-requires-3 : tie.Need-or-else-requires-3
 or-else-requires-3 c κs = search needs
 
--- src/lib.rt:47:25
 unless-requires-4 : tie.Need-unless-requires-4
 unless-requires-4 c κs = search needs
 
--- src/lib.rt:47:9
 or-else-requires-4 : tie.Need-or-else-requires-4
 or-else-requires-4 c κs = search needs
 
--- src/lib.rt:48:13
 unless-requires-5 : tie.Need-unless-requires-5
 unless-requires-5 c κs = search needs
 
--- src/lib.rt:48:5
 or-else-requires-5 : tie.Need-or-else-requires-5
 or-else-requires-5 c κs = search needs
 
--- src/lib.rt:31:1
 returns : tie.Need-returns
-returns c = ?
+returns c = 
+    let fifth = c .before .before in
+    let fourth = fifth .before .before in
+    let third = fourth .before .before .before in
+    let second = third .before .before .before in
+    let first = second .before .before .before in
+    or-else-is (c .or-else5 .ensures) (c .before .unless5 .ensures)
+    (or-else-is (fifth .or-else4 .ensures) (fifth .before .unless4 .ensures)
+    (or-else-is (fourth .or-else3 .ensures) (fourth .before .unless3 .ensures ∙ ap (λ (b : Bool). unless b 3 0) (fourth .before .before .is-length .ensures))
+    (or-else-is (third .or-else2 .ensures) (each-is _ _ _ _ _ _ (third .before .before .first-above .ensures) (third .before .found .ensures))
+    (or-else-is (second .or-else .ensures) (second .before .unless2 .ensures) (first .unless .ensures)))))
+    ∙ store-verdict _ _ _ _ (first .before .before .before .pre)
 
 pub store-verdict-spec : {M : Type 1} → statement M
 store-verdict-spec =
