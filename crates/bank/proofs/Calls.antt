@@ -14,7 +14,8 @@ use Rattle.run.specs.Verdicts.{done, orElse, unless, each}
 use Rattle.run.proofs.Chain.{or-else-done, unless-done, each-done, or-else-refused, or-else-next}
 use Rattle.bank.specs.declared.Found.{Found}
 use Rattle.bank.specs.Slots.{Slot, has, fetched, taken, isNumber, isLength, isList}
-use Rattle.bank.specs.Layout.{slotsIn, isRoom, isBank}
+use Rattle.bank.specs.Plain.{storePlain, dropPlain, fetchPlain}
+use Rattle.bank.specs.Layout.{slotsIn, isBank}
 use Rattle.bank.specs.Outcome.{storeVerdict, dropVerdict, Find, fetchVerdict}
 use Rattle.bank.specs.Exact.{Holds}
 use Rattle.bank.proofs.Front.{room-low}
@@ -65,7 +66,7 @@ pub record Dropping (bytes : List ℕ) (number : ℕ) : Type 0 where
   pub there : has number (slotsIn bytes) ≡ true
 
 pub drop-done : (bytes : List ℕ) (number : ℕ) → dropVerdict bytes number .number ≡ 0 → Dropping bytes number
-unfolding dropVerdict
+unfolding dropVerdict dropPlain
 drop-done bytes number h =
     let first = or-else-done _ _ h in
     let second = or-else-done _ _ (first .rest) in
@@ -80,10 +81,22 @@ pub record Fetching (bytes : List ℕ) (number outLength : ℕ) : Type 0 where
   pub known : Dropping bytes number
   pub long : outLength ≡ length (fetched number (slotsIn bytes))
 
+or-else-assoc : (a b c : Verdict) → orElse (orElse a b) c ≡ orElse a (orElse b c)
+unfolding orElse
+or-else-assoc a b c = side (eqb (a .number) 0) refl
+  where
+    side : (t : Bool) → eqb (a .number) 0 ≡ t → cond (eqb (cond t b a .number) 0) c (cond t b a) ≡ cond t (cond (eqb (b .number) 0) c b) a
+    side true e = refl
+    side false e = rw e
+
+-- fetch's checks are drop's, and one more
+fetch-drop : (bytes : List ℕ) (number outLength : ℕ) → fetchVerdict bytes number outLength ≡ orElse (dropVerdict bytes number) (unless (eqb outLength (length (fetched number (slotsIn bytes)))) 3 0)
+unfolding fetchVerdict fetchPlain dropVerdict
+fetch-drop bytes number outLength = sym (or-else-assoc _ _ _)
+
 pub fetch-done : (bytes : List ℕ) (number outLength : ℕ) → fetchVerdict bytes number outLength .number ≡ 0 → Fetching bytes number outLength
-unfolding fetchVerdict
 fetch-done bytes number outLength h =
-    let both = or-else-done _ _ h in
+    let both = or-else-done _ _ (rw (fetch-drop bytes number outLength) at h) in
     record { known = drop-done bytes number (both .first); long = eqb-true _ _ (unless-done _ 3 0 (lit< tt) (both .rest)) }
 
 -- .. and store's
@@ -96,7 +109,7 @@ pub record Storing (bytes : List ℕ) (number : ℕ) (slot : List ℕ) : Type 0 
   pub fits : taken (slotsIn bytes) + (4 + length slot) ≤ length bytes
 
 pub store-done : (bytes : List ℕ) (number : ℕ) (slot : List ℕ) → storeVerdict bytes number slot .number ≡ 0 → Storing bytes number slot
-unfolding storeVerdict
+unfolding storeVerdict storePlain
 store-done bytes number slot h =
     let first = or-else-done _ _ h in
     let second = or-else-done _ _ (first .rest) in
@@ -123,7 +136,7 @@ none n = side (ltb 0 n) refl
 module _ (bytes : List ℕ) (number : ℕ) where
   pub drop-verdict : (n : ℕ) → (isBank bytes ≡ true → n ≡ length (fetched number (slotsIn bytes)))
       → orElse (unless (isBank bytes) 28 0) (orElse (unless (isNumber number) 11 0) (unless (ltb 0 n) 29 0)) ≡ dropVerdict bytes number
-  unfolding dropVerdict
+  unfolding dropVerdict dropPlain
   drop-verdict n told =
       unless-bank bytes _ _
       (λ e.
@@ -132,8 +145,7 @@ module _ (bytes : List ℕ) (number : ℕ) where
 
   pub fetch-verdict : (found : Found) (outLength : ℕ) → Find bytes number found
       → orElse (found .verdict) (unless (eqb outLength (found .length)) 3 0) ≡ fetchVerdict bytes number outLength
-  unfolding fetchVerdict
-  fetch-verdict found outLength f = rw (f .verdict-is) (side (eqb (dropVerdict bytes number .number) 0) refl)
+  fetch-verdict found outLength f = rw (f .verdict-is) (side (eqb (dropVerdict bytes number .number) 0) refl) ∙ sym (fetch-drop bytes number outLength)
     where
       side : (b : Bool) → eqb (dropVerdict bytes number .number) 0 ≡ b
           → orElse (dropVerdict bytes number) (unless (eqb outLength (found .length)) 3 0)
@@ -152,7 +164,7 @@ module _ (bytes : List ℕ) (number : ℕ) where
       (orElse (unless (eqb (found .length) 0) 30 0)
       (unless (leb (found .total + (4 + length slot)) (length bytes)) 31 0)))))
       ≡ storeVerdict bytes number slot
-  unfolding storeVerdict
+  unfolding storeVerdict storePlain
   store-verdict found slot f =
       ap (λ (b : Bool). orElse (unless b 28 0)
       (orElse (unless (isNumber number) 11 0)

@@ -4,3 +4,5 @@ pub mod Reading
 pub mod Split
 pub mod Calls
 pub mod Change
+pub mod Lists
+pub mod Exact

@@ -3,18 +3,18 @@
 -- Assumes nothing.
 use Prim.Native.Nat.{ℕ, _+_, _-_}
 use mathlib.Core.Path.{_≡_}
-use mathlib.Core.Bool.{Bool, cond, not, _&&_}
-use mathlib.Core.List.{List, [], _∷_}
-use lib.Dec.{eqb, leb}
+use mathlib.Core.Bool.{cond, _&&_}
+use mathlib.Core.List.{List, []}
+use lib.Dec.{leb}
 use lib.ListN.{length}
 use Rattle.run.specs.declared.Verdict.{Verdict}
-use Rattle.run.specs.First.{atMost}
-use Rattle.run.specs.Refusals.{lengthRefused, digitRefused, rangeRefused, bankRefused, absentRefused, presentRefused, roomRefused}
-use Rattle.run.specs.Verdicts.{orElse, unless, each, leaves}
+use Rattle.run.specs.Refusals.{bankRefused}
+use Rattle.run.specs.Verdicts.{orElse, unless, leaves}
 use Rattle.run.specs.Written.{over}
 use Rattle.bank.specs.declared.Counted.{Counted}
 use Rattle.bank.specs.declared.Found.{Found}
-use Rattle.bank.specs.Slots.{Slot, has, stored, fetched, without, sizeOf, taken, isNumber, isLength, isSlot}
+use Rattle.bank.specs.Slots.{stored, fetched, without, taken, isSlot}
+use Rattle.bank.specs.Plain.{storePlain, dropPlain, fetchPlain}
 use Rattle.bank.specs.Layout.{slotBytes, head, layout, lengthIn, firstSlot, totalIn, slotsIn, begins, isRoom, isBank, placeOf}
 
 -- the part that looks at the header: the total that it gives, and 0 where it is none
@@ -38,15 +38,9 @@ pub record Empty (bank : List ℕ) (answer : Verdict) (bank-after : List ℕ) : 
   pub verdict-is : answer ≡ emptyVerdict (length bank)
   pub bank-is : bank-after ≡ leaves (emptyVerdict (length bank)) (over (layout []) bank) bank
 
--- store: 28, 11 above 255, 3 for a slot's length, 4 above 2, 30, 31 exactly when the total taken plus the new slot plus 4 exceeds the buffer
+-- store, drop and the others: 28, and then the checks of the plain list that the bytes read as
 unfoldable pub storeVerdict : List ℕ → ℕ → List ℕ → Verdict
-storeVerdict bank number slot =
-    orElse (unless (isBank bank) bankRefused 0)
-    (orElse (unless (isNumber number) rangeRefused 0)
-    (orElse (unless (isLength (length slot)) lengthRefused 0)
-    (orElse (each 0 digitRefused (atMost 2 slot) (length slot))
-    (orElse (unless (not (has number (slotsIn bank))) presentRefused 0)
-    (unless (leb (taken (slotsIn bank) + (4 + length slot)) (length bank)) roomRefused 0)))))
+storeVerdict bank number slot = orElse (unless (isBank bank) bankRefused 0) (storePlain (length bank) (slotsIn bank) number slot)
 
 pub record Store (bank : List ℕ) (number : ℕ) (slot : List ℕ) (answer : Verdict) (bank-after : List ℕ) : Type 0 where
   pub verdict-is : answer ≡ storeVerdict bank number slot
@@ -54,14 +48,10 @@ pub record Store (bank : List ℕ) (number : ℕ) (slot : List ℕ) (answer : Ve
       bank-after
       ≡ leaves (storeVerdict bank number slot) (over (layout (stored (slotsIn bank) (record { number = number; digits = slot }))) bank) bank
 
--- drop, and the length of a slot: 28, 11 above 255, 29
 unfoldable pub dropVerdict : List ℕ → ℕ → Verdict
-dropVerdict bank number =
-    orElse (unless (isBank bank) bankRefused 0)
-    (orElse (unless (isNumber number) rangeRefused 0)
-    (unless (has number (slotsIn bank)) absentRefused 0))
+dropVerdict bank number = orElse (unless (isBank bank) bankRefused 0) (dropPlain (slotsIn bank) number)
 
--- the part that looks for a slot: those checks, the total taken, where the slot with the number begins, and how many digits it has (none where there is no such slot); all 0 where the
+-- the part that looks for a slot: drop's checks, the total taken, where the slot with the number begins, and how many digits it has (none where there is no such slot); all 0 where the
 -- bytes are no bank
 pub record Find (bank : List ℕ) (number : ℕ) (answer : Found) : Type 0 where
   pub verdict-is : answer .verdict ≡ dropVerdict bank number
@@ -77,10 +67,8 @@ pub record Length (bank : List ℕ) (number : ℕ) (answer : Counted) : Type 0 w
   pub verdict-is : answer .verdict ≡ dropVerdict bank number
   pub count-is : answer .count ≡ leaves (dropVerdict bank number) (length (fetched number (slotsIn bank))) 0
 
--- fetch: those, then 3 where the output has not the stored length
 unfoldable pub fetchVerdict : List ℕ → ℕ → ℕ → Verdict
-fetchVerdict bank number outLength =
-    orElse (dropVerdict bank number) (unless (eqb outLength (length (fetched number (slotsIn bank)))) lengthRefused 0)
+fetchVerdict bank number outLength = orElse (unless (isBank bank) bankRefused 0) (fetchPlain (slotsIn bank) number outLength)
 
 pub record Fetch (bank : List ℕ) (number : ℕ) (out : List ℕ) (answer : Verdict) (out-after : List ℕ) : Type 0 where
   pub verdict-is : answer ≡ fetchVerdict bank number (length out)
