@@ -6,3 +6,4 @@ pub mod Calls
 pub mod Change
 pub mod Lists
 pub mod Exact
+pub mod Again
