@@ -41,7 +41,7 @@ mapped-banked format slot tpc d tfci out answer digits p z =
     let is : digits ≡ slotOf (formatOf format) slot tpc d tfci = p .out-is ∙ leaves-done (mapVerdict format slot tpc d tfci (length out)) (slotOf (formatOf format) slot tpc d tfci) out v in
     let long : length (slotOf (formatOf format) slot tpc d tfci) ≡ formatOf format .slot = slot-placed format slot tpc d tfci (m .head .ready .data-ok) (m .head .ready .tfci-ok) .long in
     let good : isLength (length (slotOf (formatOf format) slot tpc d tfci)) ≡ true = ap isLength long ∙ length-good format (m .head .format-ok) in
-    let each = mapped-digits-ok format slot tpc d tfci (length out) m .digits in
+    let each = mapped-digits-ok format slot tpc d tfci (rw (m .head .ready .slot-ok) at m) .digits in
     rw is
     (record {
       takes = λ bank number e low new fits. stores-good bank number (slotOf (formatOf format) slot tpc d tfci) e low good each new fits;

@@ -34,16 +34,16 @@ pub extern "C" fn slt_bank_drop(bank: &mut [u8], number: usize) -> u64
 pub extern "C" fn slt_bank_length(bank: &[u8], number: usize) -> u64
     ensures { λ r. ⌜ BankLength (now (bank .entry)) number r ⌝ }
 {
-    let answer = bank_read::length_of(bank, number);
-    let verdict = answer.verdict;
-    pack(verdict, answer.count)
+    let length = bank_read::length_of(bank, number);
+    let verdict = length.verdict;
+    pack(verdict, length.count)
 }
 
 #[no_mangle]
 pub extern "C" fn slt_bank_room(bank: &[u8]) -> u64
     ensures { λ r. ⌜ BankRoom (now (bank .entry)) r ⌝ }
 {
-    let answer = bank_read::room(bank);
-    let verdict = answer.verdict;
-    pack(verdict, answer.count)
+    let room = bank_read::room(bank);
+    let verdict = room.verdict;
+    pack(verdict, room.count)
 }

@@ -1,15 +1,14 @@
 -- `bank_drop::close` meets its contract: the laws of writing from the front, where each entry comes from behind what is written.
 -- Assumes nothing.
-use mathlib.Core.Path.{_≡_, sym, ap, _∙_}
-use mathlib.Core.List.{List, _++_}
+use mathlib.Core.Path.{sym, ap, _∙_}
 use Prim.Native.Nat.{ℕ, _+_, _-_, _≤_, _<_}
 use native.Mathlib.Nat.{add-comm}
 use native.Mathlib.Omega.{arith}
 use denote.Ref.{now}
-use lib.ListN.{length, getD, take, drop, length-drop}
-use lib.Seq.{getD-drop, getD-append-add, length-take-le}
+use lib.ListN.{length, getD, drop, length-drop}
+use lib.Seq.{getD-drop}
 use Rattle.run.specs.Written.{over}
-use Rattle.run.proofs.Front.{Front, front-none, front-length, front-store, front-end}
+use Rattle.run.proofs.Front.{Front, front-none, front-length, front-store, front-end, front-behind}
 use Rattle.run.proofs.Over.{over-length, over-at, over-rest}
 use Rattle.bank_drop.proofs.close.Statement.{statement}
 use Rattle.bank_drop.proofs.close.Tie as tie
@@ -19,19 +18,6 @@ Inv-loop s₀ gap n i₀ s i = Front (over (drop gap s₀) s₀) s₀ s i × (i 
 
 abbrev μ-loop : tie.MeasureT-loop
 μ-loop s₀ gap n i₀ s i = n - i
-
--- behind the front is what was there
-front-behind : {t d₀ d : List ℕ} {a : ℕ} (z : ℕ) → Front t d₀ d a → (k : ℕ) → a ≤ k → getD d k z ≡ getD d₀ k z
-front-behind {t} {d₀} {d} {a} z f k h =
-    let s = f .sized in
-    let w = f .within in
-    let n : length (take a t) ≡ a = length-take-le a t (omega arith) in
-    let e : a + (k - a) ≡ k = omega arith in
-    ap (λ (l : List ℕ). getD l k z) (f .is)
-    ∙ ap (λ (j : ℕ). getD (take a t ++ drop a d₀) j z) (sym e)
-    ∙ rw n at (getD-append-add (take a t) (drop a d₀) (k - a) z)
-    ∙ getD-drop a d₀ (k - a) z
-    ∙ ap (λ (j : ℕ). getD d₀ j z) e
 
 sub-n : tie.Need-sub-n Inv-loop μ-loop
 sub-n c = omega arith
