@@ -342,7 +342,7 @@ fn orders(judge: &mut Judge) {
     broken[0] = b'T';
     for bank in [Some(&bytes[..]), Some(&broken[..]), Some(&bytes[..7]), None] {
         for number in [7, 0, 255, 8].into_iter().chain(BAD_NUMBERS) {
-            for size in [0, 9, 10, 60, 300, 1280, 1281] {
+            for size in [0_usize, 9, 10, 60, 300, 1280, 1281] {
                 for bad in [None, Some(0), Some(size / 2), Some(size.saturating_sub(1))] {
                     let mut slot = vec![1; size];
                     if let Some(index) = bad.filter(|index| *index < size) {
