@@ -33,7 +33,8 @@ pub fn drop(bank: &mut [u8], number: usize) -> Verdict
     let total = found.total;
     let start = found.start;
     let size = 4 + found.length;
+    let left = total - size;
     close(&mut bank[start..total], size);
-    put_head(bank, (total - size) as u32);
+    put_head(bank, left as u32);
     verdict
 }

@@ -38,6 +38,9 @@ returns c =
 add-size : tie.Need-add-size
 add-size c = let s = facts c in let w = s .within in let f = s .fits in omega arith
 
+sub-left : tie.Need-sub-left
+sub-left c = let s = facts c in let w = s .within in omega arith
+
 sub-close : tie.Need-sub-close
 sub-close c = let s = facts c in let w = s .within in omega arith
 
@@ -53,9 +56,6 @@ close-requires c κs =
     let w = s .within in
     let n = mid-len (c .before .before .before .before .before .find .result .start) (c .before .before .before .before .before .find .result .total) (now (c .before .before .before .before .before .before .before .before .args .bank)) (s .fits) in
     omega arith
-
-sub-put-head : tie.Need-sub-put-head
-sub-put-head c = let s = facts (c .before .before .before .before .before) in let w = s .within in omega arith
 
 cast-put-head : tie.Need-cast-put-head
 cast-put-head c = 
@@ -97,11 +97,11 @@ drop-spec =
     same-length
     returns
     add-size
+    sub-left
     sub-close
     part-close-start
     part-close-end
     close-requires
-    sub-put-head
     cast-put-head
     put-head-requires
     same-length-2
