@@ -4,12 +4,12 @@ use mathlib.Core.Path.{_≡_, refl, sym, ap, _∙_}
 use mathlib.Core.Bool.{Bool, true, false, cond, not, _||_, false≢true}
 use mathlib.Core.List.{List, [], _∷_, _++_}
 use Prim.Native.Nat.{ℕ, _+_, _≤_}
-use borrow.Author.Tests.{le-leb, leb-true, eq-eqb}
+use borrow.Author.Tests.{le-leb, eq-eqb}
 use lib.Dec.{eqb}
 use lib.ListN.{length}
 use Rattle.run.specs.declared.Verdict.{Verdict}
 use Rattle.run.specs.First.{Every, atMost}
-use Rattle.run.specs.Verdicts.{done, leaves}
+use Rattle.run.specs.Verdicts.{done}
 use Rattle.run.proofs.Chain.{or-else-pass, unless-pass, each-pass, leaves-done, number-0}
 use Rattle.bank.specs.Slots.{Slot, has, stored, fetched, taken, isNumber, isLength}
 use Rattle.bank.specs.Plain.{storePlain, dropPlain, fetchPlain, stores, after}

@@ -1,8 +1,8 @@
 -- The checks of the calls in terms of what the search for a slot answers, and what is known where none refused.
 -- Assumes nothing.
 use mathlib.Core.Path.{_≡_, refl, sym, ap, _∙_}
-use mathlib.Core.Bool.{Bool, true, false, cond, not, _&&_, false≢true}
-use mathlib.Core.List.{List, [], _∷_, _++_}
+use mathlib.Core.Bool.{Bool, true, false, cond, not}
+use mathlib.Core.List.{List}
 use Prim.Native.Nat.{ℕ, _+_, _≤_, _<_}
 use native.Mathlib.Omega.{arith}
 use borrow.Author.Tests.{leb-true, eqb-true, eqb-false, eq-eqb, ne-eqb, ltb-true, ltb-false, lt-ltb, not-true}
@@ -11,9 +11,9 @@ use lib.ListN.{length}
 use Rattle.run.specs.declared.Verdict.{Verdict}
 use Rattle.run.specs.First.{Every, all, atMost}
 use Rattle.run.specs.Verdicts.{done, orElse, unless, each}
-use Rattle.run.proofs.Chain.{or-else-done, unless-done, each-done, or-else-refused, or-else-next}
+use Rattle.run.proofs.Chain.{or-else-done, unless-done, each-done, or-else-refused}
 use Rattle.bank.specs.declared.Found.{Found}
-use Rattle.bank.specs.Slots.{Slot, has, fetched, taken, isNumber, isLength, isList}
+use Rattle.bank.specs.Slots.{has, fetched, taken, isNumber, isLength}
 use Rattle.bank.specs.Plain.{storePlain, dropPlain, fetchPlain}
 use Rattle.bank.specs.Layout.{slotsIn, isBank}
 use Rattle.bank.specs.Outcome.{storeVerdict, dropVerdict, Find, fetchVerdict}

@@ -1,7 +1,7 @@
 -- What a store and a drop write: a part of the bytes, and then the header, is the layout of the new list over the old bytes.
 -- Assumes nothing.
-use mathlib.Core.Path.{_≡_, refl, sym, ap, _∙_}
-use mathlib.Core.List.{List, [], _∷_, _++_, append-assoc, append-nil, map}
+use mathlib.Core.Path.{_≡_, sym, ap, _∙_}
+use mathlib.Core.List.{List, [], _∷_, _++_, append-assoc, append-nil}
 use Prim.Native.Nat.{ℕ, _+_, _-_, _≤_}
 use native.Mathlib.Omega.{arith}
 use borrow.Rule.Slice.PartMut.{putMid, midOf, post-is}
@@ -9,7 +9,7 @@ use lib.ListN.{length, take, drop, length-append}
 use lib.Seq.{take-all, drop-at, drop-drop, drop-append-le}
 use Rattle.run.specs.Fields.{total, joined}
 use Rattle.run.specs.Written.{over}
-use Rattle.bank.specs.Slots.{Slot, without, sizeOf, taken}
+use Rattle.bank.specs.Slots.{Slot, without, taken}
 use Rattle.bank.specs.Layout.{slotBytes, run, head, layout}
 use Rattle.bank.specs.Exact.{Holds}
 use Rattle.bank.proofs.Laws.{head-length, head-passed, run-cons, run-append, run-length, slot-length, taken-append}

@@ -1,26 +1,26 @@
 -- The theorems of specs/Exact.antt.
 -- Assumes nothing.
-use mathlib.Core.Path.{_≡_, refl, sym, ap, _∙_, subst}
-use mathlib.Core.Bool.{Bool, true, false, cond, false≢true}
-use mathlib.Core.List.{List, [], _∷_, _++_}
+use mathlib.Core.Path.{_≡_, refl, sym, ap, _∙_}
+use mathlib.Core.Bool.{Bool, true, false}
+use mathlib.Core.List.{List, [], _++_}
 use Prim.Native.Nat.{ℕ, _+_, _-_, _≤_, _<_}
 use native.Mathlib.Omega.{arith}
-use borrow.Author.Tests.{leb-true, eqb-true, eqb-false, le-leb}
-use lib.Dec.{eqb, leb, lit<}
-use lib.ListN.{length, take, drop}
+use borrow.Author.Tests.{eqb-true, eqb-false, le-leb}
+use lib.Dec.{eqb, lit<}
+use lib.ListN.{length, drop}
 use Rattle.run.specs.declared.Verdict.{Verdict}
 use Rattle.run.specs.Fields.{total}
-use Rattle.run.specs.Verdicts.{done, refused, orElse, unless, each, leaves, Narrow}
+use Rattle.run.specs.Verdicts.{refused, orElse, unless, leaves, Narrow}
 use Rattle.run.specs.Written.{over}
-use Rattle.run.proofs.Chain.{unless-done, unless-pass, or-else-next, or-else-refused, or-else-narrow, unless-narrow, check-narrow, each-narrow, leaves-done, leaves-refused, leaves-small, number-0, one-outcome}
+use Rattle.run.proofs.Chain.{unless-done, unless-pass, or-else-next, or-else-narrow, unless-narrow, check-narrow, each-narrow, leaves-done, leaves-refused, leaves-small, number-0, one-outcome}
 use Rattle.run.proofs.Never.{or-else-never, unless-never, each-never}
 use Rattle.run.proofs.Over.{over-length}
 use Rattle.bank.specs.declared.Counted.{Counted}
-use Rattle.bank.specs.Slots.{Slot, has, stored, fetched, without, sizeOf, taken, isNumber, isLength, isList}
-use Rattle.bank.specs.Plain.{storePlain, dropPlain, fetchPlain, Call, empties, stores, drops, after, afterAll}
-use Rattle.bank.specs.Layout.{layout, totalIn, slotsIn, isRoom, isBank}
-use Rattle.bank.specs.Outcome.{emptyVerdict, Empty, storeVerdict, Store, dropVerdict, Drop, Length, fetchVerdict, Fetch, roomVerdict, Room}
-use Rattle.bank.specs.Exact.{Holds, Bijection, Keeps, Seen, Unseen, Made, emptied, stored-in, dropped, AllMade, none, more, Told, AfterCalls, RoomAgain, Once, Packs}
+use Rattle.bank.specs.Slots.{Slot, has, stored, fetched, without, taken, isList}
+use Rattle.bank.specs.Plain.{storePlain, dropPlain, fetchPlain, Call, stores, drops, after, afterAll}
+use Rattle.bank.specs.Layout.{layout, slotsIn, isRoom, isBank}
+use Rattle.bank.specs.Outcome.{emptyVerdict, storeVerdict, dropVerdict, fetchVerdict, roomVerdict}
+use Rattle.bank.specs.Exact.{Holds, Bijection, Keeps, Seen, Unseen, Made, emptied, stored-in, dropped, AllMade, none, more, AfterCalls, RoomAgain, Once, Packs}
 use Rattle.bank.proofs.Calls.{drop-done, store-done}
 use Rattle.bank.proofs.Change.{taken-stored, taken-dropped}
 use Rattle.bank.proofs.Front.{length-low, room-low}

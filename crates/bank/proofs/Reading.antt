@@ -1,19 +1,18 @@
 -- What bytes hold: a bank's bytes are the layout of what they read as, and whatever they hold is what they read as.
 -- Assumes nothing.
-use mathlib.Core.Path.{_≡_, refl, sym, ap, _∙_}
-use mathlib.Core.Bool.{Bool, true, false, _&&_}
-use mathlib.Core.List.{List, [], _∷_, _++_, append-assoc, map}
-use Prim.Native.Nat.{ℕ, zero, suc, _+_, _-_, _≤_, _<_}
+use mathlib.Core.Path.{_≡_, sym, ap, _∙_}
+use mathlib.Core.Bool.{true}
+use mathlib.Core.List.{List, _++_, append-assoc}
+use Prim.Native.Nat.{ℕ, _-_, _≤_}
 use native.Mathlib.Omega.{arith}
 use borrow.Author.Tests.{le-leb}
-use lib.ListN.{length, take, drop, length-append, length-take, take-append-drop}
-use lib.Seq.{take-at, drop-at, take-all}
-use Rattle.run.specs.Fields.{total}
+use lib.ListN.{length, take, drop, length-take, take-append-drop}
+use lib.Seq.{take-at, take-all}
 use Rattle.run.specs.Written.{over}
 use Rattle.run.proofs.Bools.{and-left, and-right}
 use Rattle.run.proofs.Over.{over-length}
-use Rattle.bank.specs.Slots.{Slot, sizeOf, taken, isList}
-use Rattle.bank.specs.Layout.{slotBytes, run, head, layout, slotsFrom, totalIn, slotsIn, begins, isRoom, isBank}
+use Rattle.bank.specs.Slots.{Slot, taken, isList}
+use Rattle.bank.specs.Layout.{run, head, layout, slotsFrom, totalIn, slotsIn, begins, isRoom, isBank}
 use Rattle.bank.specs.Exact.{Holds}
 use Rattle.bank.proofs.Front.{heads}
 use Rattle.bank.proofs.Laws.{both, layout-length, run-length, total-read, head-passed, slots-read, count-total, begins-take, is-begins}

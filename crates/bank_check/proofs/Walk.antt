@@ -11,12 +11,11 @@ use lib.Dec.{eqb, leb}
 use lib.ListN.{length, getD, set, drop, length-set, length-append}
 use lib.Seq.{getD-set-same, getD-set-other, drop-drop}
 use Rattle.run.specs.Fields.{joined}
-use Rattle.run.proofs.Bools.{and-left, and-right, either}
+use Rattle.run.proofs.Bools.{and-left, and-right}
 use Rattle.bank.specs.Slots.{Slot, has, isNumber, isSlot, isList}
 use Rattle.bank.specs.Layout.{slotBytes, run, lengthIn, firstSlot, begins}
-use Rattle.bank.specs.Outcome.{frontSize}
 use Rattle.bank.proofs.Front.{Slotted, stands, stands-slotted, slotted-is}
-use Rattle.bank.proofs.Laws.{both, run-cons, slot-length, slot-read, slot-passed, length-read, begins-is, is-begins}
+use Rattle.bank.proofs.Laws.{both, run-cons, slot-length, slot-read, slot-passed, is-begins}
 
 -- whether the bytes read as slots with numbers that are not marked, no two alike; at most n slots are looked for
 unfoldable pub walks : ℕ → List ℕ → List ℕ → Bool

@@ -1,8 +1,8 @@
 -- The check of a whole bank: what its loop keeps, from the header to the total.
 -- Assumes nothing.
 use mathlib.Core.Path.{_≡_, refl, sym, ap, _∙_}
-use mathlib.Core.Bool.{Bool, true, false, _&&_, false≢true}
-use mathlib.Core.List.{List, [], _++_}
+use mathlib.Core.Bool.{Bool, true, false, _&&_}
+use mathlib.Core.List.{List, _++_}
 use Prim.Native.Nat.{ℕ, zero, suc, _+_, _-_, _≤_, _<_}
 use native.Mathlib.Nat.{add-zero}
 use native.Mathlib.Omega.{arith}
@@ -10,12 +10,11 @@ use borrow.Author.Tests.{eq-eqb, ne-eqb}
 use lib.Dec.{eqb}
 use lib.ListN.{length, getD, set, take, drop, replicate, length-set, length-drop, length-replicate, take-append-drop}
 use lib.Seq.{length-take-le, take-take, drop-drop, getD-take, getD-drop}
-use Rattle.run.specs.Fields.{total}
-use Rattle.bank.specs.Slots.{Slot, taken, isList}
-use Rattle.bank.specs.Layout.{run, head, layout, lengthIn, totalIn, slotsIn, isBank}
+use Rattle.bank.specs.Slots.{taken}
+use Rattle.bank.specs.Layout.{head, layout, lengthIn, totalIn, slotsIn, isBank}
 use Rattle.bank.specs.Outcome.{headTotal, frontSize}
 use Rattle.bank.specs.Exact.{Holds}
-use Rattle.bank.proofs.Front.{Slotted, stands, stands-slotted, size-there, size-stands, none-stands, Headed, heads, heads-headed, heads-total, total-heads, heads-is}
+use Rattle.bank.proofs.Front.{Slotted, stands, stands-slotted, size-there, size-stands, none-stands, heads, heads-headed, heads-total, total-heads, heads-is}
 use Rattle.bank.proofs.Laws.{same-test, run-length, count-total, drop-take}
 use Rattle.bank.proofs.Reading.{holds-run, holds-fits, holds-heads, holds-bank, bank-holds}
 use Rattle.bank_check.proofs.Walk.{walks, walks-step, walks-end, walks-run, Walked, walks-list}

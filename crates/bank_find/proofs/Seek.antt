@@ -1,8 +1,8 @@
 -- The search from slot to slot: what its loop keeps, and what stands where it ends.
 -- Assumes nothing.
 use mathlib.Core.Path.{_≡_, refl, sym, ap, _∙_}
-use mathlib.Core.Bool.{Bool, true, false, cond}
-use mathlib.Core.List.{List, [], _∷_, _++_, append-assoc, append-nil, map}
+use mathlib.Core.Bool.{Bool, true, false}
+use mathlib.Core.List.{List, [], _∷_, _++_, append-assoc, append-nil}
 use Prim.Native.Nat.{ℕ, _+_, _-_, _≤_, _<_}
 use native.Mathlib.Nat.{add-zero}
 use native.Mathlib.Omega.{arith}
@@ -10,14 +10,14 @@ use borrow.Author.Tests.{eq-eqb, ne-eqb}
 use lib.ListN.{length, getD, take, drop, length-append}
 use lib.Seq.{getD-take, getD-drop}
 use Rattle.run.specs.Fields.{total}
-use Rattle.bank.specs.Slots.{Slot, has, fetched, sizeOf, taken}
-use Rattle.bank.specs.Layout.{slotBytes, run, lengthIn, slotsIn, isBank, placeFrom, placeOf}
+use Rattle.bank.specs.Slots.{Slot, has, fetched, taken}
+use Rattle.bank.specs.Layout.{slotBytes, run, slotsIn, isBank, placeFrom, placeOf}
 use Rattle.bank.specs.Outcome.{frontLength, headTotal}
 use Rattle.bank.specs.Exact.{Holds}
 use Rattle.bank.proofs.Front.{length-there, heads-total}
-use Rattle.bank.proofs.Laws.{run-cons, run-length, slot-length, length-read, taken-append, total-one, count-total}
+use Rattle.bank.proofs.Laws.{run-cons, slot-length, length-read, taken-append, count-total}
 use Rattle.bank.proofs.Reading.{holds-fits, holds-total, holds-heads, bank-holds}
-use Rattle.bank.proofs.Split.{holds-from, Present, present, Absent, absent}
+use Rattle.bank.proofs.Split.{holds-from, present, absent}
 
 -- the header of a bank gives the total taken
 pub total-told : (bytes : List ℕ) → isBank bytes ≡ true → headTotal bytes ≡ taken (slotsIn bytes)

@@ -1,26 +1,25 @@
 -- The theorem of specs/Exact.antt: a mapped slot has 10 to 1280 digits, each 0, 1 or 2.
 -- Assumes nothing.
 use mathlib.Core.Path.{_≡_, refl, sym, ap, _∙_}
-use mathlib.Core.Bool.{true, _&&_}
-use mathlib.Core.List.{List}
-use Prim.Native.Nat.{ℕ, suc, _≤_, _<_}
+use mathlib.Core.Bool.{true}
+use Prim.Native.Nat.{ℕ, _≤_}
 use native.Mathlib.Omega.{arith}
 use borrow.Author.Tests.{leb-true, le-leb}
 use lib.Dec.{leb}
 use lib.ListN.{length}
 use Rattle.run.specs.declared.Verdict.{Verdict}
-use Rattle.run.specs.First.{firstBad, Every, atMost}
+use Rattle.run.specs.First.{firstBad, Every}
 use Rattle.run.proofs.First.{every-by}
 use Rattle.run.proofs.Chain.{leaves-done}
 use Rattle.dpch.specs.Formats.{formats, formatOf}
 use Rattle.dpch.proofs.Exact.{format-sizes}
 use Rattle.slot.specs.Rule.{slotOf}
-use Rattle.slot.specs.Outcome.{mapVerdict, Map}
-use Rattle.slot.proofs.Accept.{Mapped, mapped}
+use Rattle.slot.specs.Outcome.{mapVerdict}
+use Rattle.slot.proofs.Accept.{mapped}
 use Rattle.slot.proofs.Exact.{mapped-digits-ok, slot-placed}
 use Rattle.bank.specs.Slots.{isLength}
 use Rattle.bank.proofs.Again.{stores-good, gives-back}
-use Rattle.bank_mapped.specs.Exact.{Banked, MappedBanked}
+use Rattle.bank_mapped.specs.Exact.{MappedBanked}
 
 -- no slot format has fewer than 10 digits
 slots-long : Every (λ (n : ℕ). leb 10 (formatOf n .slot)) 17

@@ -15,7 +15,10 @@ pub fn fetch(bank: &[u8], number: usize, out: &mut [u8]) -> Verdict
 {
     let found = find(bank, number);
     let length = found.length;
-    let verdict = or_else(found.verdict, unless(out.len() == length, refusal::LENGTH, 0));
+    let verdict = or_else(
+        found.verdict,
+        unless(out.len() == length, refusal::LENGTH, 0),
+    );
     if verdict.number != 0 {
         return verdict;
     }

@@ -33,11 +33,7 @@ fn store_verdict(bank: &[u8], number: usize, slot: &[u8], there: Found) -> Verdi
     ensures { λ r. ⌜ r ≡ storeVerdict (now (bank .entry)) number (now (slot .entry)) ⌝ }
 {
     let total = there.total;
-    let room = unless(
-        total + (4 + slot.len()) <= bank.len(),
-        refusal::ROOM,
-        0,
-    );
+    let room = unless(total + (4 + slot.len()) <= bank.len(), refusal::ROOM, 0);
     let new = or_else(unless(there.length == 0, refusal::PRESENT, 0), room);
     let digits = or_else(
         found(slot, scan::first_above(slot, 2), refusal::DIGIT, 0),

@@ -301,21 +301,29 @@ fn random_bytes(judge: &mut Judge) {
 
 /// A bank that is full to its last byte, dropped from the front, the middle and the back, and filled again.
 fn full_banks(judge: &mut Judge) {
-    for (count, size) in [(1, 1280), (200, 80), (256, 10), (256, 252), (51, 1280), (255, 253)] {
-        let slots: Vec<Slot> =
-            (0..count).map(|number| Slot { number: number as u8, digits: vec![(number % 3) as u8; size] }).collect();
-        let buffer = rules::taken(&slots);
-        for (order, first) in [(1, 0), (count - 1, count - 1), (7, count / 2)] {
-            let mut model = Model { bytes: rules::layout(&slots), slots: slots.clone() };
-            assert_eq!(model.bytes.len(), buffer);
-            for turn in 0..count.min(60) {
-                let number = (first + turn * order) % count;
-                sequence_store(judge, &mut model, number, &vec![1; size]);
-                sequence_drop(judge, &mut model, number);
-                if turn % 3 == 2 {
-                    sequence_store(judge, &mut model, number, &vec![2; size + 1]);
-                    sequence_store(judge, &mut model, number, &vec![2; size]);
-                }
+    for (count, size) in [(1, 1280), (200, 80), (256, 10), (256, 251), (51, 1280), (254, 253)] {
+        full_bank(judge, &vec![size; count]);
+    }
+    // Every number there is, in the longest buffer, to its last byte.
+    let mut sizes = vec![252; 256];
+    sizes[255] = 244;
+    full_bank(judge, &sizes);
+}
+
+fn full_bank(judge: &mut Judge, sizes: &[usize]) {
+    let count = sizes.len();
+    let slots: Vec<Slot> =
+        (0..count).map(|number| Slot { number: number as u8, digits: vec![(number % 3) as u8; sizes[number]] }).collect();
+    for (first, step) in [(0, 1), (count - 1, count - 1), (count / 2, 7)] {
+        let mut model = Model { bytes: rules::layout(&slots), slots: slots.clone() };
+        for turn in 0..count.min(60) {
+            let number = (first + turn * step) % count;
+            let size = sizes[number];
+            sequence_store(judge, &mut model, number, &vec![1; size]);
+            sequence_drop(judge, &mut model, number);
+            if turn % 3 == 2 {
+                sequence_store(judge, &mut model, number, &vec![2; (size + 1).min(1280)]);
+                sequence_store(judge, &mut model, number, &vec![2; size]);
             }
         }
     }

@@ -4,19 +4,17 @@ use borrow.Author.Needs.{needs}
 use mathlib.Core.Path.{_≡_, sym, ap, _∙_}
 use mathlib.Core.Bool.{_&&_, false≢true}
 use mathlib.Core.List.{List}
-use Prim.Native.Nat.{ℕ, _+_, _-_, _≤_, _<_}
+use Prim.Native.Nat.{ℕ, _+_, _-_, _≤_}
 use native.Mathlib.Omega.{arith}
 use borrow.Author.Tests.{not-false, not-true, le-leb}
 use denote.Ref.{now}
 use lib.Dec.{leb}
-use lib.ListN.{length, getD, take, drop}
+use lib.ListN.{length, take, drop}
 use Rattle.run.specs.First.{all, atMost}
-use Rattle.run.proofs.Bools.{and-right}
 use Rattle.run.proofs.Lent.{part-width}
 use Rattle.bank.specs.Slots.{isLength}
 use Rattle.bank.specs.Layout.{lengthIn}
-use Rattle.bank.specs.Outcome.{frontLength}
-use Rattle.bank.proofs.Front.{Slotted, length-low, length-there, length-known, digits-long, size-there, size-none}
+use Rattle.bank.proofs.Front.{length-low, length-there, length-known, digits-long, size-there, size-none}
 use Rattle.bank.proofs.front_size.Statement.{statement}
 use Rattle.bank.proofs.front_size.Tie as tie
 

@@ -7,7 +7,7 @@ use borrow.Author.Needs.{needs}
 use denote.Ref.{now}
 use lib.ListN.{take, drop}
 use Rattle.bank.specs.Outcome.{frontSize}
-use Rattle.bank_check.proofs.Whole.{Walking, bank-none, walking-start, walking-end, walking-none, walking-seen, number-low, size-fits, walking-next}
+use Rattle.bank_check.proofs.Whole.{Walking, bank-none, walking-start, walking-end, walking-none, walking-seen, size-fits, walking-next}
 use Rattle.bank_check.proofs.is_bank.Statement.{statement}
 use Rattle.bank_check.proofs.is_bank.Tie as tie
 

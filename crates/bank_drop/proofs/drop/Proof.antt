@@ -2,7 +2,7 @@
 -- Assumes nothing.
 use borrow.Author.Needs.{needs}
 use mathlib.Core.Path.{_≡_, sym, ap, _∙_}
-use Prim.Native.Nat.{ℕ, _+_, _-_, _≤_}
+use Prim.Native.Nat.{ℕ, _+_, _-_}
 use native.Mathlib.Omega.{arith}
 use denote.Ref.{now}
 use Rattle.run.proofs.Chain.{leaves-done, leaves-refused}
@@ -31,7 +31,7 @@ facts c =
     found-slot _ _ _ f (drop-done _ _ (rw (f .verdict-is) at (c .before .if1 .left)))
 
 returns : tie.Need-returns
-returns c = 
+returns c =
     let f = c .before .before .before .find .ensures in
     record { verdict-is = f .verdict-is; bank-is = sym (leaves-refused _ _ _ (rw (f .verdict-is) at (c .if1 .taken))) }
 
@@ -51,14 +51,14 @@ part-close-end : tie.Need-part-close-end
 part-close-end c = let s = facts c in let f = s .fits in omega arith
 
 close-requires : tie.Need-close-requires
-close-requires c κs = 
+close-requires c κs =
     let s = facts (c .before) in
     let w = s .within in
     let n = mid-len (c .before .before .before .before .before .find .result .start) (c .before .before .before .before .before .find .result .total) (now (c .before .before .before .before .before .before .before .before .args .bank)) (s .fits) in
     omega arith
 
 cast-put-head : tie.Need-cast-put-head
-cast-put-head c = 
+cast-put-head c =
     let s = facts (c .before .before .before .before .before) in
     let f = s .fits in
     record { fits = omega (arith, room-low _ (s .holds .room)) }
@@ -78,7 +78,7 @@ gap-closed bytes number found s ys is =
     (dropped-bytes (s .holds) (s .at-slot) (4 + found .length) (ap (λ (n : ℕ). 4 + n) (s .digits-are)) ys (rw (s .start-at, s .total-told) at is))
 
 returns-2 : tie.Need-returns-2
-returns-2 c = 
+returns-2 c =
     let put = c .before .before in
     let closed = put .before .before .before .before in
     let known = closed .before .before in

@@ -1,9 +1,9 @@
 -- `bank_find::find` meets its contract.
 -- Assumes nothing.
 use borrow.Author.Needs.{needs}
-use mathlib.Core.Path.{_≡_, sym, ap, _∙_}
-use mathlib.Core.Bool.{Bool, true, false, false≢true}
-use Prim.Native.Nat.{ℕ, _-_, _≤_}
+use mathlib.Core.Path.{_≡_, sym, _∙_}
+use mathlib.Core.Bool.{Bool, true, false≢true}
+use Prim.Native.Nat.{ℕ, _≤_}
 use native.Mathlib.Omega.{arith}
 use borrow.Author.Tests.{not-false, not-true}
 use denote.Ref.{now}
@@ -32,7 +32,7 @@ told : {a b : Bool} → a ≡ b → (number n : ℕ)
 told e number n = rw e
 
 returns : tie.Need-returns
-returns c = 
+returns c =
     let test = c .before in
     let start = test .before .before .before in
     let e = sym (test .before .is-bank .ensures) ∙ not-true _ (test .if1 .taken) in
@@ -73,7 +73,7 @@ verdict-of-requires-2 : tie.Need-verdict-of-requires-2
 verdict-of-requires-2 c κs = search needs
 
 returns-2 : tie.Need-returns-2
-returns-2 c = 
+returns-2 c =
     let part = c .before in
     let found = part .before .before in
     let start = found .before .before .before .before .before in

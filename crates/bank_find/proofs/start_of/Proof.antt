@@ -25,7 +25,7 @@ cast-if1 : tie.Need-cast-if1 Inv-loop μ-loop
 cast-if1 c = record { fits = omega (arith, c .shared-slice-known2 .given (c .before .before .loop .at)) }
 
 returns : tie.Need-returns Inv-loop μ-loop
-returns c = 
+returns c =
     let turn = c .before .before in
     let inv = turn .before .loop .inv in
     let next = seek-next inv (turn .loop-test .taken) in

@@ -21,7 +21,7 @@ or-else-requires-2 : tie.Need-or-else-requires-2
 or-else-requires-2 c κs = search needs
 
 returns : tie.Need-returns
-returns c = 
+returns c =
     or-else-is (c .or-else2 .ensures) (c .before .unless3 .ensures)
     (or-else-is (c .before .before .or-else .ensures) (c .before .before .before .unless2 .ensures) (c .before .before .before .before .unless .ensures))
 

@@ -7,7 +7,7 @@ use denote.Ref.{now}
 use lib.ListN.{length}
 use Rattle.run.proofs.Chain.{leaves-done, leaves-refused}
 use Rattle.bank.specs.Outcome.{fetchVerdict}
-use Rattle.bank.proofs.Calls.{fetch-verdict, Fetching, fetch-done, FoundSlot, found-slot}
+use Rattle.bank.proofs.Calls.{fetch-verdict, fetch-done, FoundSlot, found-slot}
 use mathlib.Core.List.{List}
 use Prim.Native.Nat.{ℕ, _+_, _-_}
 use lib.ListN.{take, drop}
@@ -62,7 +62,7 @@ facts c =
     found-slot _ _ _ (checked .before .before .find .ensures) (fetch-done _ _ _ (rw (told checked) at (test .if1 .left)) .known)
 
 returns : tie.Need-returns
-returns c = 
+returns c =
     let e = told (c .before .before) in
     record { verdict-is = e; out-is = sym (leaves-refused _ _ _ (rw e at (c .if1 .taken))) }
 
@@ -88,7 +88,7 @@ same-length : tie.Need-same-length
 same-length c = search needs
 
 returns-2 : tie.Need-returns-2
-returns-2 c = 
+returns-2 c =
     let copied = c .before .before in
     let found = copied .before .before .before in
     let test = found .before in

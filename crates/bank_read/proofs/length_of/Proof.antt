@@ -11,12 +11,12 @@ find-requires : tie.Need-find-requires
 find-requires c κs = search needs
 
 returns : tie.Need-returns
-returns c = 
+returns c =
     let f = c .before .before .before .find .ensures in
     record { verdict-is = f .verdict-is; count-is = sym (leaves-refused _ _ _ (rw (f .verdict-is) at (c .if1 .taken))) }
 
 returns-2 : tie.Need-returns-2
-returns-2 c = 
+returns-2 c =
     let f = c .before .before .before .find .ensures in
     let d = rw (f .verdict-is) at (c .if1 .left) in
     record { verdict-is = f .verdict-is; count-is = found-length _ _ _ f (drop-done _ _ d .bank) ∙ sym (leaves-done _ _ _ d) }

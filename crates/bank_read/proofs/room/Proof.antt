@@ -25,7 +25,7 @@ unless-requires c κs = search needs
 
 returns : tie.Need-returns
 unfolding roomVerdict
-returns c = 
+returns c =
     let v = c .before .before .unless .ensures ∙ ap (λ (b : Bool). unless b 28 0) (c .before .before .before .is-bank .ensures) in
     record { verdict-is = v; count-is = sym (leaves-refused _ _ _ (rw v at (c .if1 .taken))) }
 
@@ -38,14 +38,14 @@ bank-there c =
     ∙ unless-done _ 28 0 (lit< tt) (rw (c .before .before .unless .ensures) at (c .if1 .left))
 
 sub-t6 : tie.Need-sub-t6
-sub-t6 c = 
+sub-t6 c =
     let told = c .head-total .ensures in
     let e = bank-there (c .before) in
     omega (arith, total-told _ e, holds-fits (bank-holds _ e))
 
 returns-2 : tie.Need-returns-2
 unfolding roomVerdict
-returns-2 c = 
+returns-2 c =
     let test = c .before in
     let v = test .before .before .unless .ensures ∙ ap (λ (b : Bool). unless b 28 0) (test .before .before .before .is-bank .ensures) in
     let start = test .before .before .before .before .before in

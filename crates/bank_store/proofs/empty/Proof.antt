@@ -29,7 +29,7 @@ no-slots = append-nil (head 8)
 
 returns : tie.Need-returns
 unfolding emptyVerdict
-returns c = 
+returns c =
     let v = c .before .before .unless .ensures ∙ ap (λ (b : Bool). unless b 28 0) (c .before .before .before .is-room .ensures) in
     record { verdict-is = v; bank-is = sym (leaves-refused _ _ _ (rw v at (c .if1 .taken))) }
 
@@ -41,7 +41,7 @@ same-length c = search needs
 
 returns-2 : tie.Need-returns-2
 unfolding emptyVerdict
-returns-2 c = 
+returns-2 c =
     let put = c .before .before in
     let test = put .before .before in
     let start = test .before .before .before .before .before in

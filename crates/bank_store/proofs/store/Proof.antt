@@ -11,10 +11,8 @@ use denote.Ref.{now}
 use lib.ListN.{length}
 use Rattle.run.specs.Written.{over}
 use Rattle.run.proofs.Chain.{leaves-done, leaves-refused}
-use Rattle.bank.specs.declared.Found.{Found}
 use Rattle.bank.specs.Slots.{taken}
 use Rattle.bank.specs.Layout.{slotBytes, head, layout, slotsIn}
-use Rattle.bank.specs.Outcome.{Find}
 use Rattle.bank.proofs.Front.{length-low, room-low}
 use Rattle.bank.proofs.Reading.{bank-holds}
 use Rattle.bank.proofs.Calls.{found-total, Storing, store-done}
@@ -50,7 +48,7 @@ slot-written bytes number slot s total t ys is =
     (stored-bytes (bank-holds bytes (s .bank)) (record { number = number; digits = slot }) (taken (slotsIn bytes) + (4 + length slot)) refl (s .fits))
 
 returns : tie.Need-returns
-returns c = 
+returns c =
     let e = c .before .before .store-verdict .ensures in
     record { verdict-is = e; bank-is = sym (leaves-refused _ _ _ (rw e at (c .if1 .taken))) }
 
@@ -75,7 +73,7 @@ cast-write-slot c =
     record { fits = omega arith }
 
 write-slot-requires : tie.Need-write-slot-requires
-write-slot-requires c κs = 
+write-slot-requires c κs =
     let s = storing (c .before) in
     let f = s .fits in
     let t = total-is (c .before) in
@@ -85,7 +83,7 @@ write-slot-requires c κs =
     (length-low _ (s .long) .1, omega arith)
 
 cast-put-head : tie.Need-cast-put-head
-cast-put-head c = 
+cast-put-head c =
     let test = c .before .before .before .before .before in
     let s = storing test in
     let f = s .fits in
@@ -99,7 +97,7 @@ same-length-2 : tie.Need-same-length-2
 same-length-2 c = search needs
 
 returns-2 : tie.Need-returns-2
-returns-2 c = 
+returns-2 c =
     let put = c .before .before in
     let written = put .before .before .before .before in
     let test = written .before .before in

@@ -1,18 +1,11 @@
 -- `bank_store::store_verdict` meets its contract: the chain of checks is the definition's, in terms of what the search found.
 -- Assumes nothing.
 use borrow.Author.Needs.{needs}
-use mathlib.Core.Path.{_≡_, sym, ap, _∙_}
-use mathlib.Core.Bool.{Bool, true, false, cond}
-use mathlib.Core.List.{List}
-use Prim.Native.Nat.{ℕ, _≤_}
+use mathlib.Core.Path.{ap, _∙_}
+use mathlib.Core.Bool.{Bool}
 use native.Mathlib.Omega.{arith}
-use lib.ListN.{length}
 use Rattle.run.specs.Verdicts.{unless}
 use Rattle.run.proofs.Chain.{or-else-is, each-is}
-use Rattle.bank.specs.Slots.{taken}
-use Rattle.bank.specs.Layout.{slotsIn, isBank}
-use Rattle.bank.proofs.Front.{room-low}
-use Rattle.bank.proofs.Reading.{bank-holds, holds-fits}
 use Rattle.bank.proofs.Calls.{total-low, store-verdict}
 use Rattle.bank_store.proofs.store_verdict.Statement.{statement}
 use Rattle.bank_store.proofs.store_verdict.Tie as tie
@@ -63,7 +56,7 @@ or-else-requires-5 : tie.Need-or-else-requires-5
 or-else-requires-5 c κs = search needs
 
 returns : tie.Need-returns
-returns c = 
+returns c =
     let fifth = c .before .before in
     let fourth = fifth .before .before in
     let third = fourth .before .before .before in

@@ -71,7 +71,7 @@ both-copied number slot dst long xs ys e f =
     (omega arith)
 
 returns : tie.Need-returns
-returns c = 
+returns c =
     let second = c .before .before in
     let first = second .before .before .before .before in
     let start = first .before .before .before .before .before in

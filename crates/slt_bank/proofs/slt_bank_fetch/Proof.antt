@@ -17,7 +17,7 @@ same-length : tie.Need-same-length
 same-length c = search needs
 
 returns : tie.Need-returns
-returns c = 
+returns c =
     let m = c .before .before .before .fetch .ensures in
     record { answer-is = fitted 0 (c .pack .ensures) (m .verdict-is) (packs .fetch-narrow _ _ _) (lit< tt); out-is = m .out-is }
 

@@ -2,7 +2,6 @@
 -- Assumes nothing.
 use borrow.Author.Needs.{needs}
 use mathlib.Core.Path.{ap, _∙_}
-use Prim.Native.Nat.{ℕ}
 use Rattle.bank.proofs.Exact.{packs}
 use Rattle.packed.specs.Outcome.{packedCut}
 use Rattle.packed.proofs.Exact.{fitted}
@@ -16,7 +15,7 @@ pack-requires : tie.Need-pack-requires
 pack-requires c κs = search needs
 
 returns : tie.Need-returns
-returns c = 
+returns c =
     let m = c .before .before .room .ensures in
     record { answer-is = fitted _ (c .pack .ensures ∙ ap (packedCut _) (m .count-is)) (m .verdict-is) (packs .room-narrow _) (packs .room-small _) }
 
