@@ -1,5 +1,6 @@
 pub mod Laws
 pub mod Front
+pub mod Digits
 pub mod Reading
 pub mod Split
 pub mod Calls

@@ -4,6 +4,7 @@ use run::Verdict;
 ghost use mathlib.Core.Path.{_≡_};
 ghost use Prim.Native.Nat.{_+_, _≤_};
 ghost use lib.ListN.{length};
+ghost use Rattle.run.specs.First.{all, atMost};
 ghost use Rattle.run.specs.Written.{over};
 ghost use Rattle.bank.specs.Slots.{isLength};
 ghost use Rattle.bank.specs.Layout.{head, fourAt, isRoom};
@@ -107,6 +108,22 @@ pub fn front_length(s: &[u8]) -> usize
     256 * wide(s[2]) + wide(s[3])
 }
 
+// Whether all digits are 0, 1 or 2: sixteen at a time, which are one look, and then the rest.
+fn are_digits(s: &[u8]) -> bool
+    ensures { λ r. ⌜ r ≡ all (length (now (s .entry))) (atMost 2 (now (s .entry))) ⌝ }
+{
+    let n = s.len();
+    let mut i = 0;
+    while 16 <= n - i {
+        let end = i + 16;
+        if !scan::all_at_most(&s[i..end], 2, 16) {
+            return false;
+        }
+        i = end;
+    }
+    scan::all_at_most(&s[i..n], 2, n - i)
+}
+
 // The bytes that the slot at the front of a run takes, 0 where no slot stands there.
 pub fn front_size(s: &[u8]) -> usize
     ensures { λ r. ⌜ r ≡ frontSize (now (s .entry)) ⌝ }
@@ -122,7 +139,7 @@ pub fn front_size(s: &[u8]) -> usize
     if s[1] != 0 {
         return 0;
     }
-    if scan::all_at_most(&s[4..end], 2, length) {
+    if are_digits(&s[4..end]) {
         return end;
     }
     0

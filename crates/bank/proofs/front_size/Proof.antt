@@ -2,13 +2,12 @@
 -- Assumes nothing.
 use borrow.Author.Needs.{needs}
 use mathlib.Core.Path.{_≡_, sym, ap, _∙_}
-use mathlib.Core.Bool.{_&&_, false≢true}
+use mathlib.Core.Bool.{false≢true}
 use mathlib.Core.List.{List}
 use Prim.Native.Nat.{ℕ, _+_, _-_, _≤_}
 use native.Mathlib.Omega.{arith}
-use borrow.Author.Tests.{not-false, not-true, le-leb}
+use borrow.Author.Tests.{not-false, not-true}
 use denote.Ref.{now}
-use lib.Dec.{leb}
 use lib.ListN.{length, take, drop}
 use Rattle.run.specs.First.{all, atMost}
 use Rattle.run.proofs.Lent.{part-width}
@@ -42,10 +41,8 @@ known c =
 
 -- whether all digits of the part are such
 all-there : (s : List ℕ) (n : ℕ) → n ≡ lengthIn s → 4 + n ≤ length s
-    → (leb n (length (take (4 + n - 4) (drop 4 s))) && all n (atMost 2 (take (4 + n - 4) (drop 4 s)))) ≡ all (lengthIn s) (atMost 2 (take (lengthIn s) (drop 4 s)))
-all-there s n e h =
-    let long = digits-long s (rw (← e) h) in
-    rw (part-width 4 n, e, long, le-leb (lengthIn s) (lengthIn s) (omega arith))
+    → all (length (take (4 + n - 4) (drop 4 s))) (atMost 2 (take (4 + n - 4) (drop 4 s))) ≡ all (lengthIn s) (atMost 2 (take (lengthIn s) (drop 4 s)))
+all-there s n e h = let long = digits-long s (rw (← e) h) in rw (part-width 4 n, e, long)
 
 returns-2 : tie.Need-returns-2
 returns-2 c = sym (size-none _ (λ f. let fits = f .fits in let n = known (c .before) in let z : ⊥ = omega arith in z))
@@ -56,21 +53,21 @@ shared-slice-read-if3 c = search needs
 returns-3 : tie.Need-returns-3
 returns-3 c = sym (size-none _ (λ f. c .if3 .taken (f .blank)))
 
-sub-all-at-most : tie.Need-sub-all-at-most
-sub-all-at-most c = search needs
+sub-are-digits : tie.Need-sub-are-digits
+sub-are-digits c = search needs
 
-part-all-at-most-start : tie.Need-part-all-at-most-start
-part-all-at-most-start c = search needs
+part-are-digits-start : tie.Need-part-are-digits-start
+part-are-digits-start c = search needs
 
-part-all-at-most-end : tie.Need-part-all-at-most-end
-part-all-at-most-end c = search needs
+part-are-digits-end : tie.Need-part-are-digits-end
+part-are-digits-end c = search needs
 
-all-at-most-requires : tie.Need-all-at-most-requires
-all-at-most-requires c κs = search needs
+are-digits-requires : tie.Need-are-digits-requires
+are-digits-requires c κs = search needs
 
 returns-4 : tie.Need-returns-4
 returns-4 c =
-    let told = c .before .all-at-most .ensures in
+    let told = c .before .are-digits .ensures in
     let third = c .before .before .before in
     let second = third .before .before in
     let first = second .before in
@@ -90,7 +87,7 @@ returns-4 c =
 
 returns-5 : tie.Need-returns-5
 returns-5 c =
-    let told = c .before .all-at-most .ensures in
+    let told = c .before .are-digits .ensures in
     let third = c .before .before .before in
     let second = third .before .before in
     let first = second .before in
@@ -108,9 +105,9 @@ front-size-spec =
     returns-2
     shared-slice-read-if3
     returns-3
-    sub-all-at-most
-    part-all-at-most-start
-    part-all-at-most-end
-    all-at-most-requires
+    sub-are-digits
+    part-are-digits-start
+    part-are-digits-end
+    are-digits-requires
     returns-4
     returns-5)
