@@ -156,3 +156,28 @@ pub fn length(bank: &[u8], number: usize) -> Result<u16, Refusal> {
 pub fn room(bank: &[u8]) -> Result<u16, Refusal> {
     Ok((bank.len() - taken(&slots(bank)?)) as u16)
 }
+
+#[cfg(test)]
+mod tests {
+    use super::{Slot, drop, empty, fetch, length, room, store};
+    use crate::answer::refuse;
+
+    /// The bytes that docs/BANK.md gives.
+    #[test]
+    fn the_example_of_the_page() {
+        let slot = [1, 1, 0, 1, 1, 0, 1, 1, 0, 0];
+        let bank = empty(&[9; 26]).expect("a buffer of 26 bytes");
+        assert_eq!(bank[..8], [0x53, 0x4c, 0x54, 0x42, 0, 0, 0, 8]);
+        let bank = store(&bank, 7, &slot).expect("room for ten digits");
+        let wanted = [0x53, 0x4c, 0x54, 0x42, 0, 0, 0, 0x16, 7, 0, 0, 0x0a, 1, 1, 0, 1, 1, 0, 1, 1, 0, 0, 9, 9, 9, 9];
+        assert_eq!(bank, wanted);
+        assert_eq!(super::slots(&bank), Ok(vec![Slot { number: 7, digits: slot.to_vec() }]));
+        assert_eq!(fetch(&bank, 7, 10), Ok(slot.to_vec()));
+        assert_eq!(length(&bank, 7), Ok(10));
+        assert_eq!(room(&bank), Ok(4));
+        assert_eq!(store(&bank, 8, &slot), refuse(31, 0));
+        let dropped = drop(&bank, 7).expect("the slot is there");
+        assert_eq!(dropped[..8], [0x53, 0x4c, 0x54, 0x42, 0, 0, 0, 8]);
+        assert_eq!(dropped[8..], bank[8..]);
+    }
+}
