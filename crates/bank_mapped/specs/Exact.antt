@@ -1,4 +1,4 @@
--- docs/RULES.md, 'Bank': the slots that a bank holds are those that the mappers write. Proved in proofs/Exact.antt under its name in small letters.
+-- docs/RULES.md, 'Bank': a bank takes the slots that the mapper of the downlink DPCH writes, and gives them back. Proved in proofs/Exact.antt under its name in small letters.
 -- Assumes nothing.
 use Prim.Native.Nat.{ℕ, _+_, _≤_}
 use mathlib.Core.Path.{_≡_}
