@@ -38,17 +38,17 @@ def elements(name: str, value: object, kind: str, wanted: str = "a sequence of w
     if isinstance(value, (str, Mapping, Set)) or not hasattr(type(value), "__len__"):
         raise TypeError(f"{name} is of type {type(value).__name__}: {wanted} is asked for")
     try:
-        numbers = list(value)  # type: ignore[call-overload]
+        found = [number for number in value]  # type: ignore[attr-defined]
     except (TypeError, NotImplementedError):
         raise TypeError(f"{name} is of type {type(value).__name__}: {wanted} is asked for") from None
-    return [whole(f"{name}[{place}]", number, kind) for place, number in enumerate(numbers)]
+    return [whole(f"{name}[{place}]", number, kind) for place, number in enumerate(found)]
 
 
 def signatures(name: str, value: object) -> int:
     """A set of signatures as C has it, bit s for signature s: given as that number, or as the signatures in it."""
     if hasattr(type(value), "__index__"):
         return whole(name, value, "uint16_t")
-    numbers = elements(name, sorted(value) if isinstance(value, Set) else value, "uint8_t", "a number of 16 bits or a set of signatures")
+    numbers = elements(name, list(value) if isinstance(value, Set) else value, "uint8_t", "a number of 16 bits or a set of signatures")
     last = 8 * ctypes.sizeof(ctypes.c_uint16) - 1
     if any(number > last for number in numbers):
         raise ValueError(f"{name} has {max(numbers)}: signatures are 0 to {last}")

@@ -1,6 +1,7 @@
 """Digits: bytes that are 0, 1, or 2 for DTX, given and shown as text where that is easier to read: '0110-'."""
 from __future__ import annotations
 
+import re
 from typing import Any, Sequence, SupportsIndex, Union, overload
 
 from . import _numbers
@@ -8,9 +9,11 @@ from . import _numbers
 # What a run of digits may be given as.
 DigitsLike = Union[str, Sequence[int]]
 
-SHOWN = "01-"
-_BYTES = {character: digit for digit, character in enumerate(SHOWN)}
-_TEXT = SHOWN.ljust(256, "?")
+# How the digits 0, 1 and 2 are written, and how any byte is shown.
+WRITTEN = b"01-"
+SHOWN = WRITTEN.ljust(256, b"?")
+READ = bytes.maketrans(WRITTEN, bytes(range(len(WRITTEN))))
+OTHER = re.compile("[^01-]")
 
 
 class Digits(bytes):
@@ -23,7 +26,7 @@ class Digits(bytes):
         return super().__new__(cls, of("the run", value))
 
     def __str__(self) -> str:
-        return "".join(_TEXT[digit] for digit in self)
+        return self.translate(SHOWN).decode("ascii")
 
     def __repr__(self) -> str:
         shown = str(self)
@@ -51,7 +54,7 @@ def of(name: str, value: object) -> bytes:
         return bytes(value)
     if not isinstance(value, str):
         return bytes(_numbers.elements(name, value, "uint8_t", "text of 0, 1 and -, bytes, or a sequence of small numbers"))
-    for place, character in enumerate(value):
-        if character not in _BYTES:
-            raise ValueError(f"{name}[{place}] is {character!r}: a digit is written as 0, 1, or - for DTX")
-    return bytes(_BYTES[character] for character in value)
+    wrong = OTHER.search(value)
+    if wrong:
+        raise ValueError(f"{name}[{wrong.start()}] is {wrong[0]!r}: a digit is written as 0, 1, or - for DTX")
+    return value.encode("ascii").translate(READ)

@@ -213,6 +213,13 @@ Record = Union[Aich, Pich, Dpch]
 KINDS: Dict[int, Union[Type[Aich], Type[Pich], Type[Dpch]]] = {Aich.KIND: Aich, Pich.KIND: Pich, Dpch.KIND: Dpch}
 
 
+def written(name: str, record: Record) -> bytes:
+    """The bytes of a record, and of nothing else: those of a number would be so many zeros."""
+    if not isinstance(record, tuple(KINDS.values())):
+        raise TypeError(f"{name} is of type {type(record).__name__}: a record is asked for")
+    return bytes(record)
+
+
 class Part(NamedTuple):
     """A record of a file: where it begins, what it is, and the line that slotline prints for it."""
 
@@ -228,7 +235,10 @@ class Job:
     """
 
     def __init__(self, records: Iterable[Record] = (), version: int = 0) -> None:
-        self.records = list(records)
+        try:
+            self.records = [record for record in records]
+        except (TypeError, NotImplementedError):
+            raise TypeError(f"records is of type {type(records).__name__}: a sequence of records is asked for") from None
         self.version = _numbers.whole("version", version, "uint16_t")
 
     @classmethod
@@ -243,7 +253,7 @@ class Job:
         Job.read(bytes(self))
 
     def __bytes__(self) -> bytes:
-        body = b"".join(map(bytes, self.records))
+        body = b"".join(written(f"records[{place}]", record) for place, record in enumerate(self.records))
         known = [version for version in VERSIONS if self.version in (0, version.number)]
         for version in known:
             head = len(version.head) + version.count_bytes
