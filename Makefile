@@ -132,25 +132,44 @@ fuzz: lib judges slotline
 	$(SECOND)/fuzz $(SEED) $(CASE) | $(EMULATOR) target/fuzz/fuzz
 	test -n "$(CASE)" || $(SECOND)/jobs --fuzz $(SEED) $(PROGRAM)
 
-# The archive, its header and its pkg-config file, the program and its man page. PREFIX is where they will be used, and
-# DESTDIR stands before it where they are only put together.
+# The Python package: its types, where a checker of them is there, and its tests, which load the shared library and run the program. A Python of another processor
+# cannot load a library for x86-64: there only the types are looked at.
+MYPY = mypy
+python: lib slotline
+	if command -v $(MYPY) > /dev/null; then cd python && $(MYPY) --cache-dir ../target/mypy slt backend tests/typed.py; else echo "python: there is no $(MYPY) here, and types are not looked at"; fi
+ifdef EMULATOR
+	@echo "python: this machine's Python cannot load a library for x86-64: the tests of the package are left out"
+else
+	cd python && SEED=$(SEED) SLT_LIBRARY=$(abspath $(SHARED)) SLOTLINE=$(abspath $(PROGRAM)) python3 -B -m unittest discover -s tests -t .
+endif
+
+# The archive, the shared library with its links, the header and its pkg-config file, the program and its man page, and the Python package with a link to the library
+# beside it. PREFIX is where they will be used, and DESTDIR stands before it where they are only put together. PYTHON_DIR is where Python looks for packages below PREFIX.
 PREFIX = /usr/local
 VERSION = 1.0
+PYTHON_DIR = $(or $(shell python3 -B packaging/python_dir.py "$(PREFIX)"),$(PREFIX)/lib/python3/site-packages)
 install: lib slotline
 	install -D -m 644 $(LIB) "$(DESTDIR)$(PREFIX)/lib/libslt.a"
+	install -D -m 755 $(SHARED).$(VERSION) "$(DESTDIR)$(PREFIX)/lib/libslt.so.$(VERSION)"
+	ln -sf libslt.so.$(VERSION) "$(DESTDIR)$(PREFIX)/lib/libslt.so.$(MAJOR)"
+	ln -sf libslt.so.$(MAJOR) "$(DESTDIR)$(PREFIX)/lib/libslt.so"
 	install -D -m 644 include/slt.h "$(DESTDIR)$(PREFIX)/include/slt.h"
 	install -D -m 755 $(SLOTLINE) "$(DESTDIR)$(PREFIX)/bin/slotline"
 	install -D -m 644 packaging/slotline.1 "$(DESTDIR)$(PREFIX)/share/man/man1/slotline.1"
 	sed 's|@PREFIX@|$(PREFIX)|; s|@VERSION@|$(VERSION)|' packaging/slt.pc.in > target/slt.pc
 	install -D -m 644 target/slt.pc "$(DESTDIR)$(PREFIX)/lib/pkgconfig/slt.pc"
+	install -d "$(DESTDIR)$(PYTHON_DIR)/slt"
+	install -m 644 python/slt/*.py python/slt/py.typed "$(DESTDIR)$(PYTHON_DIR)/slt"
+	ln -sfr "$(DESTDIR)$(PREFIX)/lib/libslt.so.$(MAJOR)" "$(DESTDIR)$(PYTHON_DIR)/slt/libslt.so.$(MAJOR)"
 
-# An installation as another project meets it: its man page, its program, and a C program that is told by pkg-config alone
-# where the header and the archive are.
+# An installation as another project meets it: its man page, its program, a C program that is told by pkg-config alone
+# where the header, the archive and the shared library are, and the Python package, installed and as pip installs it.
 INSTALLED = $(abspath target/install)
+INSTALLED_PYTHON = $(shell python3 -B packaging/python_dir.py $(INSTALLED))
 package: lib slotline
 	rm -rf target/install target/outside
 	$(MAKE) --no-print-directory -o lib -o slotline install DESTDIR= PREFIX=$(INSTALLED)
-	CC=$(CC) EMULATOR=$(EMULATOR) sh packaging/try.sh $(INSTALLED) target/outside
+	CC=$(CC) EMULATOR=$(EMULATOR) sh packaging/try.sh $(INSTALLED) target/outside $(INSTALLED_PYTHON)
 
 # Ratios to plain C, to tight C and to memcpy, in one run. It fails where the library and the C beside it answer or write anything that is not the
 # same; nothing fails by its numbers. The program slotline is timed against programs of its own.

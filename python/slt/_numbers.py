@@ -4,7 +4,7 @@ from __future__ import annotations
 import ctypes
 import operator
 from collections.abc import Mapping, Set
-from typing import Dict, List, Tuple, Type, Union
+from typing import Any, Dict, List, Tuple, Type, Union
 
 WHOLE: Dict[str, Type[ctypes._SimpleCData[int]]] = {
     "size_t": ctypes.c_size_t,
@@ -21,30 +21,31 @@ def bounds(kind: str) -> Tuple[int, int]:
     return (-(1 << bits - 1), (1 << bits - 1) - 1) if kind.startswith("int") else (0, (1 << bits) - 1)
 
 
-def whole(name: str, value: object, kind: str) -> int:
+def whole(name: str, value: Any, kind: str) -> int:
     """A whole number that a C type can hold: an int, or what stands for one."""
     try:
-        number = operator.index(value)  # type: ignore[arg-type]
+        number = operator.index(value)
     except TypeError:
         raise TypeError(f"{name} is of type {type(value).__name__}: a whole number is asked for") from None
     least, greatest = bounds(kind)
     if not least <= number <= greatest:
-        raise ValueError(f"{name} is {number}: a number from {least} to {greatest} is asked for")
+        told = number if number.bit_length() < 100 else f"a number of {number.bit_length()} bits"
+        raise ValueError(f"{name} is {told}: a number from {least} to {greatest} is asked for")
     return number
 
 
-def elements(name: str, value: object, kind: str, wanted: str = "a sequence of whole numbers") -> List[int]:
+def elements(name: str, value: Any, kind: str, wanted: str = "a sequence of whole numbers") -> List[int]:
     """The numbers of a sequence. What has no order, no length, or letters for numbers is none."""
     if isinstance(value, (str, Mapping, Set)) or not hasattr(type(value), "__len__"):
         raise TypeError(f"{name} is of type {type(value).__name__}: {wanted} is asked for")
     try:
-        found = [number for number in value]  # type: ignore[attr-defined]
+        found = [number for number in value]
     except (TypeError, NotImplementedError):
         raise TypeError(f"{name} is of type {type(value).__name__}: {wanted} is asked for") from None
     return [whole(f"{name}[{place}]", number, kind) for place, number in enumerate(found)]
 
 
-def signatures(name: str, value: object) -> int:
+def signatures(name: str, value: Any) -> int:
     """A set of signatures as C has it, bit s for signature s: given as that number, or as the signatures in it."""
     if hasattr(type(value), "__index__"):
         return whole(name, value, "uint16_t")
@@ -55,22 +56,22 @@ def signatures(name: str, value: object) -> int:
     return sum(1 << number for number in set(numbers))
 
 
-def real(name: str, value: object) -> float:
+def real(name: str, value: Any) -> float:
     """A number of 32 bits with a point: the nearest one, as C makes it."""
     try:
-        return ctypes.c_float(value).value  # type: ignore[arg-type]
+        return ctypes.c_float(value).value
     except TypeError:
         raise TypeError(f"{name} is of type {type(value).__name__}: a real number is asked for") from None
     except OverflowError:
         raise ValueError(f"{name} is too large for a real number") from None
 
 
-def parts(name: str, value: object) -> Tuple[int, int]:
+def parts(name: str, value: Any) -> Tuple[int, int]:
     """The real and the imaginary part of a whole complex number: given as an int, as a complex number, or as its two parts."""
     if isinstance(value, complex):
         pair = [whole_part(f"{name}.real", value.real), whole_part(f"{name}.imag", value.imag)]
     elif hasattr(type(value), "__index__"):
-        pair = [value, 0]  # type: ignore[list-item]
+        pair = [value, 0]
     else:
         pair = elements(name, value, "int64_t", "a whole complex number, or its real and its imaginary part,")
     if len(pair) != 2:
@@ -84,7 +85,7 @@ def whole_part(name: str, value: float) -> int:
     return int(value)
 
 
-def converted(name: str, value: object, kind: str) -> Union[int, float]:
+def converted(name: str, value: Any, kind: str) -> Union[int, float]:
     """A number as the call takes it."""
     if kind == "float":
         return real(name, value)

@@ -59,7 +59,7 @@ WRONG_TYPE: Dict[str, List[Any]] = {
 
 # Values of the right type that C cannot hold, or that are no digits.
 WRONG_VALUE: Dict[str, List[Any]] = {
-    "size_t": [-1, 1 << 64, -(1 << 64), 1 << 999, Index(-1), Index(1 << 64)],
+    "size_t": [-1, 1 << 64, -(1 << 64), 1 << 99999, Index(-1), Index(1 << 64)],
     "int64_t": [1 << 63, -(1 << 63) - 1, 1 << 64],
     "uint16_t": [-1, 1 << 16, [16], {0, 99}, {-1}, [1 << 70]],
     "float": [1 << 2000],
