@@ -83,9 +83,9 @@ def words(tree):
 
 
 def known(tree, page, word):
-    """A name of the package: `slt.name` on any page; on the package's own any name of it or of Python, and the variable that names the library. What is called
-    may have arguments. And its commands."""
-    if re.match(r"python -m slt( |$)", word) or word == "pip install ./python":
+    """A name of the package: on any page the package, its commands, and `slt.name`; on the package's own pages any name of it or of Python, and the variable that
+    names the library. What is called may have arguments."""
+    if re.match(r"python -m slt( |$)", word) or word in ("pip install ./python", "slt"):
         return tree.has("python/pyproject.toml")
     match = re.fullmatch(r"([A-Za-z_][\w.]*)(\(.*\))?", word)
     if not match or not (page in PAGES or word.startswith("slt.")):

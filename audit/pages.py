@@ -230,7 +230,7 @@ def man_faults(tree):
         word = match and re.sub(r"\\%|\"", "", match[2]).replace("\\-", "-")
         if match and match[1] in ("BR", "IR"):
             word = word.split()[0]
-        if match and not word.isdigit() and not known(tree, " ".join(word.split())):
+        if match and not word.isdigit() and not known(tree, " ".join(word.split())) and not package.known(tree, MAN, " ".join(word.split())):
             yield number, f"{word} names nothing that there is"
 
 
