@@ -24,8 +24,11 @@ def rows(tree):
         kinds, words = [], []
         for argument in row.arguments:
             is_run = hasattr(argument, "written")
-            kinds += [("" if argument.written else "const ") + argument.kind + " *", "size_t"] if is_run else [argument.kind]
-            words += [argument.name, "n_" + argument.name] if is_run else [argument.name]
+            kinds.append(("" if argument.written else "const ") + argument.kind + " *" if is_run else argument.kind)
+            words.append(argument.name)
+            if is_run and argument.counted:
+                kinds.append("size_t")
+                words.append("n_" + argument.name)
         found[name] = kinds + [row.answer], words
     return found
 

@@ -46,33 +46,36 @@ def call(name: str, *given: object, rooms: Sequence[int] = ()) -> Answer:
 
 def converted(name: str, given: Sequence[object]) -> Dict[str, Any]:
     """The arguments that are given, by their names: each number as C takes it, each run in memory of its own."""
-    read = [argument for argument in CALLS[name].arguments if isinstance(argument, Number) or not argument.written]
+    read = [argument for argument in CALLS[name].arguments if isinstance(argument, Number) or argument.given]
     return {argument.name: copied(argument, value) for argument, value in zip(read, given)}
 
 
 def copied(argument: Union[Number, Run], value: object) -> Any:
     if isinstance(argument, Number):
         return _numbers.converted(argument.name, value, argument.kind)
+    kind = _numbers.WHOLE[argument.kind]
+    if not argument.counted:
+        return (kind * 1)(_numbers.whole(argument.name, value, argument.kind))
     if argument.kind == "uint8_t":
         held = digits.of(argument.name, value)
-        return (ctypes.c_uint8 * len(held)).from_buffer_copy(held)
+        return (kind * len(held)).from_buffer_copy(held)
     numbers = _numbers.elements(argument.name, value, argument.kind)
-    return (_numbers.WHOLE[argument.kind] * len(numbers))(*numbers)
+    return (kind * len(numbers))(*numbers)
 
 
 def made(name: str, held: Dict[str, Any], rooms: Sequence[int]) -> Answer:
     """Makes a call on arguments that are converted, with rooms of these lengths."""
-    row, ahead = CALLS[name], iter(rooms)
-    written = {run: (_numbers.WHOLE[run.kind] * next(ahead))() for run in row.runs if run.written}
-    lent = {**held, **{run.name: room for run, room in written.items()}}
+    ahead = iter(rooms)
     arguments: List[Any] = []
-    for argument in row.arguments:
-        arguments.append(lent[argument.name])
+    written: List[Any] = []
+    for argument in CALLS[name].arguments:
+        lent = held[argument.name] if argument.name in held else (_numbers.WHOLE[argument.kind] * next(ahead))()
+        arguments.append(lent)
         if isinstance(argument, Run):
-            arguments.append(len(lent[argument.name]))
+            arguments += [len(lent)] * argument.counted
+            written += [lent] * argument.written
     answer, sample = function(name)(*arguments), (0.0, 0.0)
     if isinstance(answer, SampleStruct):
         answer, sample = answer.answer, (answer.inphase, answer.quadrature)
-    in_digits = [Digits(bytes(room)) for run, room in written.items() if run.kind == "uint8_t"]
-    in_values = [list(room) for run, room in written.items() if run.kind != "uint8_t"]
-    return Answer(*apart(answer), in_digits, in_values, sample)
+    in_bytes = [Digits(bytes(run)) for run in written if run._type_ is ctypes.c_uint8]
+    return Answer(*apart(answer), in_bytes, [list(run) for run in written if run._type_ is not ctypes.c_uint8], sample)

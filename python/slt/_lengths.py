@@ -2,7 +2,7 @@
 from __future__ import annotations
 
 import functools
-from typing import NamedTuple, Tuple
+from typing import Any, List, NamedTuple, Tuple
 
 from . import _numbers
 from ._library import apart, function
@@ -29,12 +29,21 @@ def lengths(name: str, *by: int) -> Lengths:
     numbers it does so before it looks at a length.
     """
     row, ahead, made = CALLS[name], iter(by), function(name)
-    numbers = [next(ahead) if argument.sets_lengths else 0 for argument in row.arguments if isinstance(argument, Number)]
-    rooms = [(_numbers.WHOLE[run.kind] * LONGEST)() for run in row.runs]
-    found = [0] * len(rooms)
-    while max(found) <= LONGEST:
-        number, place, _ = apart(made(*numbers, *(part for pair in zip(rooms, found) for part in pair)))
+    arguments: List[Any] = []
+    places = []  # those of the lengths, in the order in which the refusal counts their runs
+    for argument in row.arguments:
+        if isinstance(argument, Number):
+            arguments.append(next(ahead) if argument.sets_lengths else 0)
+            continue
+        arguments.append((_numbers.WHOLE[argument.kind] * LONGEST)())
+        if argument in row.runs:
+            places.append(len(arguments))
+        arguments += [0] * argument.counted
+    while True:
+        number, place, _ = apart(made(*arguments))
+        found = tuple(arguments[at] for at in places)
         if number != WRONG_LENGTH:
-            return Lengths(tuple(found), number if not any(found) else 0)
-        found[place] += 1
-    raise RuntimeError(f"{name} asks for more than {LONGEST} elements")
+            return Lengths(found, 0 if any(found) else number)
+        if found[place] == LONGEST:
+            raise RuntimeError(f"{name} asks for more than {LONGEST} elements")
+        arguments[places[place]] += 1

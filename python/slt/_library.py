@@ -49,9 +49,9 @@ def library() -> ctypes.CDLL:
 
 
 def c_types(argument: Union[Number, Run]) -> List[Any]:
-    """An argument as ctypes passes it: a run is a pointer and a length."""
+    """An argument as ctypes passes it: a run is a pointer, and a length where it is counted."""
     if isinstance(argument, Run):
-        return [ctypes.c_void_p, ctypes.c_size_t]
+        return [ctypes.c_void_p, ctypes.c_size_t] if argument.counted else [ctypes.c_void_p]
     return [ctypes.c_float if argument.kind == "float" else _numbers.WHOLE[argument.kind]]
 
 

@@ -17,11 +17,14 @@ class Number(NamedTuple):
 
 
 class Run(NamedTuple):
-    """A run of elements, with its length behind it. One that is not written is const in C."""
+    """A run of elements, with its length behind it if it is counted; one that is not is a single element. The caller gives it, or the call writes it, or both. One that
+    is not written is const in C."""
 
     name: str
     kind: str
+    given: bool
     written: bool
+    counted: bool = True
 
 
 class Row(NamedTuple):
@@ -30,8 +33,8 @@ class Row(NamedTuple):
 
     @property
     def runs(self) -> Tuple[Run, ...]:
-        """In the order in which refusal 3 counts them."""
-        return tuple(argument for argument in self.arguments if isinstance(argument, Run))
+        """The runs that refusal 3 counts, in its order: what is given and written as well is no such run."""
+        return tuple(argument for argument in self.arguments if isinstance(argument, Run) and not (argument.given and argument.written))
 
 
 def row(*arguments: Union[Number, Run]) -> Row:
@@ -55,11 +58,21 @@ def level(name: str) -> Number:
 
 
 def given(name: str, kind: str = "uint8_t") -> Run:
-    return Run(name, kind, written=False)
+    return Run(name, kind, given=True, written=False)
 
 
 def room(name: str, kind: str = "uint8_t") -> Run:
-    return Run(name, kind, written=True)
+    return Run(name, kind, given=False, written=True)
+
+
+def state(name: str, kind: str) -> Run:
+    """A number that the call is given and changes."""
+    return Run(name, kind, given=True, written=True, counted=False)
+
+
+def store(name: str) -> Run:
+    """Bytes that the call is given and changes."""
+    return Run(name, "uint8_t", given=True, written=True)
 
 
 FORMAT = Number("format", "size_t", sets_lengths=True)
