@@ -136,7 +136,7 @@ fuzz: lib judges slotline
 # cannot load a library for x86-64: there only the types are looked at.
 MYPY = mypy
 python: lib slotline
-	if command -v $(MYPY) > /dev/null; then cd python && $(MYPY) --cache-dir ../target/mypy slt backend tests/typed.py; else echo "python: there is no $(MYPY) here, and types are not looked at"; fi
+	if command -v $(MYPY) > /dev/null; then cd python && $(MYPY) slt backend tests/typed.py; else echo "python: there is no $(MYPY) here, and types are not looked at"; fi
 ifdef EMULATOR
 	@echo "python: this machine's Python cannot load a library for x86-64: the tests of the package are left out"
 else

@@ -38,7 +38,7 @@ def call(name: str, *given: object, rooms: Sequence[int] = ()) -> Answer:
     if answer.number == WRONG_LENGTH:
         run = row.runs[answer.place].name
         wanted = f", and {asked[answer.place]} are asked for" if asked else ""
-        raise Refused(answer.number, answer.place, f"{run} has {len(held[run])} elements{wanted}")
+        raise Refused(answer.number, answer.place, f"{run} has {len(held[run])} elements{wanted}" if run in held else "")
     if answer.number:
         raise Refused(answer.number, answer.place)
     return answer
