@@ -135,7 +135,7 @@ def is_call(tree, word):
 
 
 def is_command(tree, word):
-    """make TARGET VARIABLE=.., rt COMMAND .., pkg-config PACKAGE, or an option that the Makefile uses."""
+    """make TARGET VARIABLE=.., rt COMMAND .., pkg-config OPTIONS PACKAGE, or an option that the Makefile uses."""
     first, *rest = word.split()
     if first == "make":
         named = [part.partition("=") for part in rest]
@@ -143,7 +143,7 @@ def is_command(tree, word):
     if first == "rt":
         return rest[:1] != [] and rest[0] in RT and all(part in tree.crates or part == "NAME" or part.startswith("--") for part in rest[1:])
     if first == "pkg-config":
-        return len(rest) == 1 and tree.has(f"packaging/{rest[0]}.pc.in")
+        return rest != [] and tree.has(f"packaging/{rest[-1]}.pc.in") and all(part.startswith("--") for part in rest[:-1])
     return first.startswith("-") and not rest and first in tree.text("Makefile").split()
 
 

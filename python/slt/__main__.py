@@ -22,7 +22,7 @@ EPILOG = """examples:
   %(prog)s job show FILE
 
 Digits are written as 0, 1, and - for DTX; values as numbers with commas between them.
-Status: 0 done, 1 refused, 2 bad usage."""
+Status: 0 done, 1 refused, 2 bad usage, or no such file, or no library."""
 
 
 class Wrong(Exception):

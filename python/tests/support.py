@@ -9,8 +9,7 @@ import subprocess
 import sys
 from typing import Any, Dict, List, NamedTuple, Optional, Tuple
 
-import slt
-from slt._rows import CALLS, Number, Run
+from slt._rows import CALLS, Number, Row
 
 ROOT = pathlib.Path(__file__).resolve().parent.parent.parent
 PACKAGE = ROOT / "python" / "slt"
@@ -50,7 +49,7 @@ NAMED: Dict[str, Tuple[str, Dict[str, str]]] = {
 
 
 class Case(NamedTuple):
-    """A case: the function, its arguments by name, the lengths of its rooms, and what is answered: number and place, and by name what is written beside a done."""
+    """A case: the function, what it is given by name, the lengths of its rooms, and what is answered: number, place, and by name what is answered and written."""
 
     line: str
     function: str
@@ -61,58 +60,64 @@ class Case(NamedTuple):
     answered: Dict[str, Any]
 
     @property
-    def row(self) -> Any:
+    def row(self) -> Row:
         return CALLS["slt_" + self.function]
 
     @property
     def room_refused(self) -> bool:
-        """A run that is written has the wrong length, which this package's callers cannot do."""
+        """A run that is written has the wrong length, which a caller of the functions cannot bring about."""
         return self.number == 3 and self.row.runs[self.place].written
 
 
-def in_place(argument: Any, text: str) -> Any:
-    """An argument from its text in a case: a digit is one character."""
+def pairs(text: str) -> Dict[str, str]:
+    """The words key=value of a text."""
+    return dict(word.split("=", 1) for word in text.split(" ") if word)
+
+
+def bits(text: str) -> float:
+    """A float that is written by its bits."""
+    found: float = struct.unpack(">f", bytes.fromhex(text))[0]
+    return found
+
+
+def value(row: Row, name: str, text: str) -> Any:
+    """What an argument of a call, or its answer, is by its text: a digit is one character."""
+    argument = {argument.name: argument for argument in row.arguments}.get(name, Number(name, "size_t"))
     if isinstance(argument, Number):
         return int(text)
     return [int(digit) for digit in text] if argument.kind == "uint8_t" else [int(part) for part in text.split(",") if part]
 
 
-def pairs(text: str) -> Dict[str, str]:
-    return dict(word.split("=", 1) for word in text.split(" ") if word)
+def values(function: str, names: Dict[str, str], found: Dict[str, str]) -> Dict[str, Any]:
+    """What a case has by its own names, by those of the function. The two gains of the combiner are four numbers to C."""
+    if "gains" in found:
+        found = {**found, **dict(zip(("h1_re", "h1_im", "h2_re", "h2_im"), found["gains"].split(",")))}
+        del found["gains"]
+    row = CALLS["slt_" + function]
+    renamed = {names.get(key, key.lower()): text for key, text in found.items()}
+    return {key: value(row, key, text) for key, text in renamed.items()}
 
 
-def bits(text: str) -> float:
-    found: float = struct.unpack(">f", bytes.fromhex(text))[0]
-    return found
-
-
-def sample(given: Dict[str, str]) -> Tuple[str, Dict[str, Any]]:
+def sample_case(line: str, asked: Dict[str, str], told: Dict[str, str], number: int, place: int) -> Case:
     """The settings of a sample are three functions."""
-    i, q = given["values"].split(",")
-    setting, *levels = given["setting"].split(",")
-    names = {"off": [], "shared": ["level"], "each": ["first", "second"]}[setting]
-    return "sample_" + setting, {"i": int(i), "q": int(q), **dict(zip(names, map(bits, levels))), "antenna": int(given["antenna"])}
+    i, q = asked["values"].split(",")
+    setting, *levels = asked["setting"].split(",")
+    names = {"off": (), "shared": ("level",), "each": ("first", "second")}[setting]
+    given = {"i": int(i), "q": int(q), **dict(zip(names, map(bits, levels))), "antenna": int(asked["antenna"])}
+    return Case(line, "sample_" + setting, given, [], number, place, dict(zip(("inphase", "quadrature"), map(bits, told["sample"].split(",")))))
 
 
 def of_line(line: str) -> Case:
+    """NAME: CALL key=value .. -> done key=value .., or with `refused NUMBER PLACE` for `done`. Runs that are written stand on both sides."""
     question, answer = line.split(" -> ")
-    call, text = re.fullmatch(r"[^:]*: ([^=]*?) (\S*=.*)", question).groups()
-    verdict, *left = re.split(r" (?=\w+=)", answer, 1)
+    call, asked = re.fullmatch(r"[^:]*: ([^=]*?) (\S*=.*)", question).groups()
+    number, place, told = re.fullmatch(r"(?:done|refused (\d+) (\d+))(.*)", answer).groups(default="0")
     function, names = NAMED[call]
-    asked, told = pairs(text), pairs(left[0] if left else "")
-    _, number, place = verdict.split() if verdict != "done" else ("done", "0", "0")
     if function == "sample":
-        function, given = sample(asked)
-        parts = [bits(part) for part in told["sample"].split(",")]
-        return Case(line, function, given, [], int(number), int(place), dict(zip(("inphase", "quadrature"), parts)))
-    if function == "aich_combine":
-        asked.update(zip(("h1_re", "h1_im", "h2_re", "h2_im"), asked.pop("gains").split(",")))
-    arguments = {argument.name: argument for argument in CALLS["slt_" + function].arguments}
-    asked = {names.get(key, key if key in arguments else key.lower()): value for key, value in asked.items()}
-    held = {key: in_place(arguments[key], value) for key, value in asked.items()}
-    rooms = [len(held.pop(run.name)) for run in CALLS["slt_" + function].runs if run.written]
-    answered = {names.get(key, key if key in arguments else key.lower()): value for key, value in told.items()}
-    return Case(line, function, held, rooms, int(number), int(place), {key: in_place(arguments.get(key, Number(key, "size_t")), value) for key, value in answered.items()})
+        return sample_case(line, pairs(asked), pairs(told), int(number), int(place))
+    given = values(function, names, pairs(asked))
+    rooms = [len(given.pop(run.name)) for run in CALLS["slt_" + function].runs if run.written]
+    return Case(line, function, given, rooms, int(number), int(place), values(function, names, pairs(told)))
 
 
 def cases() -> List[Case]:

@@ -147,10 +147,11 @@ class Writing(unittest.TestCase):
                 wrong()
 
     def test_too_large(self) -> None:
-        for many in ([SLOT] * 256, [Dpch(16, 0, tpc=0, data="0" * 1248, tfci="0" * 8)] * 60):
+        most, long = job.VERSIONS[-1], Dpch(16, 0, tpc=0, data="0" * 1248, tfci="0" * 8)
+        for many in ([SLOT] * (most.most_records + 1), [long] * (most.longest // 1260 + 1)):
             with self.assertRaises(ValueError) as raised:
                 bytes(Job(many))
-            self.assertIn("255 records and 65535 bytes", str(raised.exception))
+            self.assertIn(f"{most.most_records} records and {most.longest} bytes", str(raised.exception))
         with self.assertRaises(ValueError):
             bytes(Job([SLOT], version=7))
 
@@ -167,7 +168,7 @@ class Widths(unittest.TestCase):
     WIDE = job.Version(2, count_bytes=2, longest=60, counted_first=False)
 
     def setUp(self) -> None:
-        patched = mock.patch.object(job, "VERSIONS", [*job.VERSIONS, self.WIDE])
+        patched = mock.patch.object(job, "VERSIONS", [job.VERSIONS[0], self.WIDE])
         patched.start()
         self.addCleanup(patched.stop)
 

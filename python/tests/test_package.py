@@ -6,12 +6,14 @@ import base64
 import hashlib
 import importlib.util
 import inspect
+import os
 import pathlib
 import re
 import shutil
 import tempfile
 import unittest
 import zipfile
+from unittest import mock
 
 import slt
 from slt import _library
@@ -85,10 +87,18 @@ class Finding(unittest.TestCase):
         (self.folder / _library.SONAME).symlink_to(self.library)
         self.assertEqual(self.ask(LD_LIBRARY_PATH=str(self.folder)), SHOWN)
 
+    def test_the_order(self) -> None:
+        with mock.patch.dict(os.environ, SLT_LIBRARY=""):
+            self.assertEqual(_library.candidates(), [str(support.PACKAGE / _library.SONAME), str(support.PACKAGE / "libslt.so"), _library.SONAME])
+        with mock.patch.dict(os.environ, SLT_LIBRARY="some/other.so"):
+            self.assertEqual(_library.candidates(), ["some/other.so"])
+
     def test_where_there_is_none(self) -> None:
-        said = self.ask().decode()
-        for tried in (str(self.folder.resolve() / "slt" / _library.SONAME), str(self.folder.resolve() / "slt" / "libslt.so"), f"  {_library.SONAME}:", "SLT_LIBRARY"):
-            self.assertIn(tried, said)
+        """What was tried is told."""
+        with self.assertRaises(OSError) as raised:
+            _library.open_first(["/no/such/folder/libslt.so.1", "libslt-of-nobody.so.1"])
+        for told in ("/no/such/folder/libslt.so.1", "libslt-of-nobody.so.1", "SLT_LIBRARY"):
+            self.assertIn(told, str(raised.exception))
 
     def test_the_variable_decides(self) -> None:
         """Where it is set no other is taken, though there is one."""
