@@ -18,26 +18,25 @@ RULES, PAGES = "docs/RULES.md", ("docs/PYTHON.md", "python/README.md")
 
 
 def rows(tree):
-    """Each row as the header has it: the C types of the arguments and of the answer, and the names of the arguments."""
+    """Each row as the header has it: the C types of the arguments and of the answer, and the names of the arguments but for lengths."""
     found = {}
     for name, row in runpy.run_path(str(tree.root / ROWS))["CALLS"].items():
-        kinds, words = [], []
+        kinds = []
         for argument in row.arguments:
             is_run = hasattr(argument, "written")
-            kinds.append(("" if argument.written else "const ") + argument.kind + " *" if is_run else argument.kind)
-            words.append(argument.name)
-            if is_run and argument.counted:
-                kinds.append("size_t")
-                words.append("n_" + argument.name)
-        found[name] = kinds + [row.answer], words
+            kinds.append(("" if argument.written else "const ") + (argument.struct or argument.kind) + " *" if is_run else argument.kind)
+            kinds += ["size_t"] * (is_run and argument.counted)
+        found[name] = kinds + [row.answer], [argument.name for argument in row.arguments]
     return found
 
 
 def in_header(tree):
-    """The same of the header."""
+    """The same of the header. The length of a run is called n, or n_ with the run's name."""
     named = {}
     for name, arguments in re.findall(r"^\w+ (slt_\w+)\(([^)]*)\);", header.code(tree), re.M):
-        named[name] = [part.split()[-1].lstrip("*") for part in arguments.split(",") if part.strip() != "void"]
+        words = [part.split()[-1].lstrip("*") for part in arguments.split(",") if part.strip() != "void"]
+        runs = [part.split()[-1].lstrip("*") for part in arguments.split(",") if "*" in part]
+        named[name] = [word for place, word in enumerate(words) if not (place and words[place - 1] in runs and word in ("n", "n_" + words[place - 1]))]
     return {name: (kinds, named[name]) for name, kinds in header.declared(tree).items()}
 
 

@@ -54,12 +54,12 @@ def copied(argument: Union[Number, Run], value: object) -> Any:
     if isinstance(argument, Number):
         return _numbers.converted(argument.name, value, argument.kind)
     kind = _numbers.WHOLE[argument.kind]
-    if not argument.counted:
-        return (kind * 1)(_numbers.whole(argument.name, value, argument.kind))
     if argument.kind == "uint8_t":
         held = digits.of(argument.name, value)
         return (kind * len(held)).from_buffer_copy(held)
-    numbers = _numbers.elements(argument.name, value, argument.kind)
+    numbers = _numbers.elements(argument.name, [value] if argument.fixed == 1 else value, argument.kind)
+    if argument.fixed and len(numbers) != argument.fixed:
+        raise ValueError(f"{argument.name} has {len(numbers)} numbers: {argument.fixed} are asked for")
     return (kind * len(numbers))(*numbers)
 
 

@@ -10,6 +10,7 @@ WHOLE: Dict[str, Type[ctypes._SimpleCData[int]]] = {
     "size_t": ctypes.c_size_t,
     "uint8_t": ctypes.c_uint8,
     "uint16_t": ctypes.c_uint16,
+    "uint32_t": ctypes.c_uint32,
     "int32_t": ctypes.c_int32,
     "int64_t": ctypes.c_int64,
 }

@@ -17,14 +17,19 @@ class Number(NamedTuple):
 
 
 class Run(NamedTuple):
-    """A run of elements, with its length behind it if it is counted; one that is not is a single element. The caller gives it, or the call writes it, or both. One that
-    is not written is const in C."""
+    """A run of elements, with its length behind it; where their number is fixed no length is passed. The caller gives it, or the call writes it, or both. One that is not
+    written is const in C. To C a fixed number of elements may be a struct."""
 
     name: str
     kind: str
     given: bool
     written: bool
-    counted: bool = True
+    fixed: int = 0
+    struct: str = ""
+
+    @property
+    def counted(self) -> bool:
+        return self.fixed == 0
 
 
 class Row(NamedTuple):
@@ -65,9 +70,9 @@ def room(name: str, kind: str = "uint8_t") -> Run:
     return Run(name, kind, given=False, written=True)
 
 
-def state(name: str, kind: str) -> Run:
-    """A number that the call is given and changes."""
-    return Run(name, kind, given=True, written=True, counted=False)
+def state(name: str, kind: str, fixed: int = 1, struct: str = "") -> Run:
+    """A number that the call is given and changes, or a struct of some."""
+    return Run(name, kind, given=True, written=True, fixed=fixed, struct=struct)
 
 
 def store(name: str) -> Run:

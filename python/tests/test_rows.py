@@ -35,7 +35,14 @@ def keep(bank: int, length: int, slot: int, slot_length: int) -> int:
     return 0
 
 
+def step(tally: int, by: int) -> int:
+    """A struct of three numbers, of which each goes up."""
+    pointed(tally, ctypes.c_uint32, 3)[:] = [number + by for number in pointed(tally, ctypes.c_uint32, 3)]
+    return 0
+
+
 MADE: Dict[str, Any] = {
+    "slt_test_step": (row(state("tally", "uint32_t", 3, "slt_tally"), size("by")), step),
     "slt_test_serve": (row(state("last", "size_t"), size("n"), room("values", "int32_t")), serve),
     "slt_test_keep": (row(store("bank"), given("slot")), keep),
 }
@@ -63,6 +70,12 @@ class Kinds(unittest.TestCase):
         for wrong, error in ((None, TypeError), (-1, ValueError), (1 << 64, ValueError), ([1], TypeError)):
             with self.assertRaises(error):
                 _call.call("slt_test_serve", wrong, 4)
+
+    def test_a_struct_that_is_changed(self) -> None:
+        self.assertEqual(_call.call("slt_test_step", (1, 2, 4095), 5).values, [[6, 7, 4100]])
+        for wrong, error in (((1, 2), ValueError), ([], ValueError), (7, TypeError), ((1, 2, -1), ValueError), ((1, 2, None), TypeError)):
+            with self.assertRaises(error):
+                _call.call("slt_test_step", wrong, 5)
 
     def test_bytes_that_are_changed(self) -> None:
         bank = bytearray(b"\7\7\7\7")
