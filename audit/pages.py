@@ -38,7 +38,7 @@ RT = {"check", "ci", "dev", "fmt", "must-fail", "prove", "staticlib", "try"}
 # A line that slotline prints: its first word, and words in capitals for what changes. A refusal that is printed has a number that there is.
 PRINTED = re.compile(r"(SLT|AICH|PICH|DPCH|refused)( 1)?( [A-Z]+)*")
 REFUSED = re.compile(r"refused (\d+) (\d+)")
-PATH = re.compile(r"[\w.*-]*(/[\w.*-]*)+|[\w*-]*\.(md|antt|rt|rs|c|h|py|sh|txt|slt|svg|toml|map|typed|a|so|so\.1|1|edit)")
+PATH = re.compile(r"[\w.*-]*(/[\w.*-]*)+|[\w*-]*\.(md|antt|rt|rs|c|h|py|sh|txt|slt|svg|toml|map|typed|a|so(\.\d+)?|1|edit)")
 
 
 def blank(match):
@@ -91,8 +91,8 @@ def is_path(tree, word):
     """A path from the root, from a crate's folder, or a file's bare name; what make puts in target/ if the Makefile says so."""
     if not PATH.fullmatch(word):
         return False
-    if word.startswith("target/") or word.endswith((".a", ".so", ".so.1")):
-        return word.removeprefix("target/").removesuffix(".1") in tree.text("Makefile")
+    if re.match(r"target/|.*\.(a|so(\.\d+)?)$", word):
+        return re.sub(r"^target/|(?<=\.so)\.\d+$", "", word) in tree.text("Makefile")
     pattern = re.sub(r"(NAME|CHANNEL|FUNCTION)", "*", word.rstrip("/"))
     if pattern.startswith("."):
         return any(name.endswith(pattern) for name in tree.files)

@@ -1,7 +1,6 @@
 """The C calls of include/slt.h, a row for each: the names and the C types of their arguments, in their order.
 
-ctypes knows nothing of a header, and a wrong type here would call the right function wrongly: the audit compares every row with the header. Nothing else of the
-package names a C type of an argument.
+ctypes knows nothing of a header, and a wrong type here would call the right function wrongly: the audit compares every row with the header.
 """
 from __future__ import annotations
 

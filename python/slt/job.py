@@ -8,7 +8,7 @@ from dataclasses import dataclass
 from typing import ClassVar, Dict, Iterable, Iterator, List, NamedTuple, Sequence, Tuple, Type, Union
 
 from . import _numbers
-from ._lengths import Lengths, lengths
+from ._lengths import lengths
 from .aich import aich_map
 from .digits import Digits, DigitsLike
 from .dpch import slot_map
@@ -118,7 +118,7 @@ class Reader:
 
 def asked(name: str, *by: int) -> Tuple[int, ...]:
     """How long a mapper's runs are, or its refusal of a format or an Np."""
-    found: Lengths = lengths(name, *by)
+    found = lengths(name, *by)
     if found.refused:
         raise Refused(found.refused, 0)
     return found.runs

@@ -1,6 +1,7 @@
 """The examples of docs/PYTHON.md, run as they stand."""
 from __future__ import annotations
 
+import doctest
 import inspect
 import os
 import pathlib
@@ -47,6 +48,12 @@ class Page(unittest.TestCase):
                 with self.subTest(command):
                     ended = subprocess.run(["sh", "-c", command], cwd=support.ROOT, env=environment, stdout=subprocess.PIPE, stderr=subprocess.DEVNULL)
                     self.assertEqual(ended.stdout.decode(), printed)
+
+    def test_what_is_shown_elsewhere(self) -> None:
+        """The lines with >>> of the package's own text and of both first pages."""
+        ended = [doctest.testmod(slt), *(doctest.testfile(str(support.ROOT / page), module_relative=False, globs={"slt": slt}) for page in ("README.md", "python/README.md"))]
+        self.assertEqual([found.failed for found in ended], [0, 0, 0])
+        self.assertTrue(all(found.attempted for found in ended))
 
     def test_every_function_has_its_row(self) -> None:
         """Under its name and with its arguments."""
