@@ -132,8 +132,8 @@ fuzz: lib judges slotline
 	$(SECOND)/fuzz $(SEED) $(CASE) | $(EMULATOR) target/fuzz/fuzz
 	test -n "$(CASE)" || $(SECOND)/jobs --fuzz $(SEED) $(PROGRAM)
 
-# The Python package: its types, where a checker of them is there, and its tests, which load the shared library and run the program. A Python of another processor
-# cannot load a library for x86-64: there only the types are looked at.
+# The Python package: its types, where a checker of them is there, and its tests, which load the shared library and run the program; SEED decides their random arguments,
+# too. A Python of another processor cannot load a library for x86-64: there only the types are looked at.
 MYPY = mypy
 python: lib slotline
 	if command -v $(MYPY) > /dev/null; then cd python && $(MYPY) slt backend tests/typed.py; else echo "python: there is no $(MYPY) here, and types are not looked at"; fi

@@ -83,7 +83,7 @@ def bits(text: str) -> float:
 def value(row: Row, name: str, text: str) -> Any:
     """What an argument of a call, or its answer, is by its text: a digit is one character."""
     argument = {argument.name: argument for argument in row.arguments}.get(name, Number(name, "size_t"))
-    if isinstance(argument, Number):
+    if isinstance(argument, Number) or argument.fixed == 1:
         return int(text)
     return [int(digit) for digit in text] if argument.kind == "uint8_t" else [int(part) for part in text.split(",") if part]
 
