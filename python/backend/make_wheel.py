@@ -27,8 +27,15 @@ def version() -> str:
 
 
 def metadata() -> str:
-    page = (HERE / "README.md").read_text(encoding="utf-8")
-    return f"Metadata-Version: 2.1\nName: slt\nVersion: {version()}\nSummary: Proved reference slot mapper for 3GPP TS 25.211\nRequires-Python: >=3.9\nDescription-Content-Type: text/markdown\n\n{page}"
+    lines = [
+        "Metadata-Version: 2.1",
+        "Name: slt",
+        f"Version: {version()}",
+        "Summary: Proved reference slot mapper for 3GPP TS 25.211",
+        "Requires-Python: >=3.9",
+        "Description-Content-Type: text/markdown",
+    ]
+    return "\n".join(lines) + "\n\n" + (HERE / "README.md").read_text(encoding="utf-8")
 
 
 def library() -> Optional[pathlib.Path]:

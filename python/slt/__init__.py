@@ -4,8 +4,9 @@
     >>> print(slt.slot_map(1, 1, tpc=1, data="10", tfci="01"))
     1101101100
 
-Digits are given as text ('0110-', DTX as -), as bytes, or as any sequence of small numbers, and are answered as Digits: bytes that are shown as such text. Values are lists
-of numbers. A call that is refused raises Refused, with the number, the place and what the number means. docs/PYTHON.md has examples, docs/RULES.md the rules.
+Digits are given as text ('0110-', DTX as -), as bytes, or as any sequence of small numbers, and are answered as Digits: bytes that are shown as such text.
+Values are lists of numbers. A call that is refused raises Refused, with the number, the place and what the number means. docs/PYTHON.md has examples, docs/RULES.md
+the rules.
 """
 from . import aich, dpch, job, pccpch, pich, sample, sttd, uplink
 from ._library import VERSION as __version__

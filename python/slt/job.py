@@ -44,7 +44,7 @@ VERSIONS: Sequence[Version] = (Version(1, count_bytes=1, longest=65535, counted_
 
 
 class FileRefused(Refused):
-    """A job file is refused, with the number and the place that slotline prints. `offset` is where in the file: the record's first byte, where a record is refused."""
+    """A job file is refused, with the number and the place that slotline prints. `offset` is where in the file: of a record that is refused it is the first byte."""
 
     def __init__(self, number: int, place: int, offset: int) -> None:
         super().__init__(number, place, f"at byte {offset} of the file")
@@ -262,7 +262,8 @@ class Job:
         if not known:
             raise ValueError(f"there is no version {self.version} of job files")
         most = known[-1]
-        raise ValueError(f"a job of {len(self.records)} records, {len(body)} bytes, is too large: a file of version {most.number} has at most {most.most_records} records and {most.longest} bytes")
+        limits = f"a file of version {most.number} has at most {most.most_records} records and {most.longest} bytes"
+        raise ValueError(f"a job of {len(self.records)} records, {len(body)} bytes, is too large: {limits}")
 
     def __eq__(self, other: object) -> bool:
         """Jobs are equal whose files are."""

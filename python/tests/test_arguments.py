@@ -102,8 +102,9 @@ class Arguments(unittest.TestCase):
     def test_any_sequence(self) -> None:
         """Digits in whatever they come."""
         wanted = slt.slot_map(1, 1, tpc=1, data="10", tfci="01")
-        for data in ("10", b"\1\0", bytearray(b"\1\0"), [1, 0], (1, 0), [True, False], memoryview(b"\1\0"), range(1, -1, -1), array.array("i", [1, 0]), array.array("b", [1, 0]),
-                     collections.deque([1, 0]), [Index(1), Index(0)], slt.Digits("10"), (ctypes.c_int * 2)(1, 0), memoryview(b"\1x\0x")[::2]):
+        plain = ["10", b"\1\0", bytearray(b"\1\0"), [1, 0], (1, 0), [True, False], range(1, -1, -1), slt.Digits("10"), [Index(1), Index(0)]]
+        others = [memoryview(b"\1\0"), memoryview(b"\1x\0x")[::2], array.array("i", [1, 0]), array.array("b", [1, 0]), collections.deque([1, 0]), (ctypes.c_int * 2)(1, 0)]
+        for data in plain + others:
             with self.subTest(data):
                 self.assertEqual(slt.slot_map(1, Index(1), tpc=True, data=data, tfci="01"), wanted)
         values = slt.aich_map([1, -1] + [0] * 14)

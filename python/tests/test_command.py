@@ -50,9 +50,10 @@ class Calls(unittest.TestCase):
 
     def test_bad_usage(self) -> None:
         slot = ["map", "slot", "format=1", "slot=1", "tpc=1", "data=10"]
-        for words in ([], ["nothing"], ["map"], ["map", "nothing"], slot[:-1], slot + ["data=10"], slot + ["datum=1"], slot + ["tfci"], slot[:-1] + ["data=12"], slot[:-1] + ["data=x"],
-                      ["map", "slot", "format=one", "slot=1", "tpc=1", "data=10"], ["map", "slot", "format=-1", "slot=1", "tpc=1", "data=10"], ["map", "aich", "indicators=1;2"],
-                      ["job"], ["job", "check"], ["job", "check", "/no/such/file"], ["job", "show", str(support.ROOT)], ["--nothing"]):
+        wrong_words = [[], ["nothing"], ["map"], ["map", "nothing"], ["job"], ["job", "check"], ["job", "check", "/no/such/file"], ["job", "show", str(support.ROOT)], ["--nothing"]]
+        wrong_words += [slot[:-1], slot + ["data=10"], slot + ["datum=1"], slot + ["tfci"], slot[:-1] + ["data=12"], slot[:-1] + ["data=x"]]
+        wrong_words += [["map", "slot", f"format={wrong}", "slot=1", "tpc=1", "data=10"] for wrong in ("one", "-1", "")] + [["map", "aich", "indicators=1;2"]]
+        for words in wrong_words:
             status, out, err = run(*words)
             self.assertEqual((status, out), (2, ""), words)
             self.assertIn("python -m slt", err)
@@ -63,7 +64,8 @@ class Calls(unittest.TestCase):
             word = "map" if "map" in name.split("_") else "read" if "read" in name.split("_") else ""
             if word:
                 runs = {argument.name for argument in command.arguments(name) if command.form(argument) == "DIGITS"}
-                words = [f"{key}={slt.Digits(value) if key in runs else ','.join(map(str, value)) if isinstance(value, list) else value}" for key, value in given.items()]
+                texts = {key: slt.Digits(value) if key in runs else ",".join(map(str, value)) if isinstance(value, list) else value for key, value in given.items()}
+                words = [f"{key}={text}" for key, text in texts.items()]
                 channel = "-".join(part for part in name.split("_") if part != word)
                 with self.subTest(name):
                     status, out, err = run(word, channel, *words)
@@ -95,10 +97,13 @@ class Jobs(unittest.TestCase):
     def test_show(self) -> None:
         status, out, err = run("job", "show", THREE_KINDS)
         self.assertEqual((status, err), (0, ""))
-        self.assertEqual(
-            out,
-            "      0 SLT version=1 records=3\n      6 AICH indicators=1,-1,0,0,0,0,0,0,0,0,0,0,0,0,0,0\n     23 PICH np=18 indicators=000000010000000000\n     43 DPCH format=0 slot=0 tpc=0 data=1010 tfci=\n",
-        )
+        wanted = [
+            "      0 SLT version=1 records=3",
+            "      6 AICH indicators=1,-1,0,0,0,0,0,0,0,0,0,0,0,0,0,0",
+            "     23 PICH np=18 indicators=000000010000000000",
+            "     43 DPCH format=0 slot=0 tpc=0 data=1010 tfci=",
+        ]
+        self.assertEqual(out.splitlines(), wanted)
         status, out, err = run("job", "show", REFUSED)
         self.assertEqual((status, len(out.splitlines()), err[:12]), (1, 2, "refused 6 1:"))
 

@@ -48,8 +48,8 @@ def record(chance: random.Random) -> job.Record:
         return Pich(np, chance.choices([0, 1], k=np))
     format = chance.choice(range(chance.choice([2, 12, 17])))
     data, tfci, _ = _lengths.lengths("slt_slot_map", format).runs
-    silent = chance.random() < 0.3
-    return Dpch(format, chance.randrange(15), tpc=chance.randrange(2), data=chance.choices([0, 1, 2], k=data), tfci=[2] * tfci if silent else chance.choices([0, 1], k=tfci))
+    field = [2] * tfci if chance.random() < 0.3 else chance.choices([0, 1], k=tfci)
+    return Dpch(format, chance.randrange(15), tpc=chance.randrange(2), data=chance.choices([0, 1, 2], k=data), tfci=field)
 
 
 def damaged(chance: random.Random, data: bytes) -> bytes:
@@ -139,7 +139,8 @@ class Writing(unittest.TestCase):
             self.assertEqual(job.lines(bytes(Job([SLOT, bad]))), ["SLT 1 2", "DPCH 1 1 1101101100", last])
 
     def test_what_no_byte_holds(self) -> None:
-        for bad in (Dpch(256, 0, tpc=0, data=""), Dpch(0, -1, tpc=0, data=""), Dpch(0, 0, tpc=999, data=""), Pich(300, ""), Aich([2] + [0] * 15), Aich([-2] + [0] * 15), Aich([300])):
+        slots = (Dpch(256, 0, tpc=0, data=""), Dpch(0, -1, tpc=0, data=""), Dpch(0, 0, tpc=999, data=""))
+        for bad in (*slots, Pich(300, ""), Aich([2] + [0] * 15), Aich([-2] + [0] * 15), Aich([300])):
             with self.subTest(bad), self.assertRaises(ValueError):
                 bytes(Job([bad]))
         for wrong in (lambda: bytes(Job([7])), lambda: bytes(Job([b"\3"])), lambda: Job(None), lambda: Job([SLOT], None), lambda: Pich(18, 5), lambda: Aich("101")):
@@ -159,7 +160,8 @@ class Writing(unittest.TestCase):
         self.assertEqual(Job([SLOT]), Job([SLOT], version=1))
         self.assertNotEqual(Job([SLOT]), Job([SLOT, SLOT]))
         self.assertNotEqual(Job([SLOT]), [SLOT])
-        self.assertEqual(eval(repr(Job([SLOT, Pich(18, "0" * 18), Aich([0] * 16)])), {**vars(job), "Digits": slt.Digits}), Job([SLOT, Pich(18, "0" * 18), Aich([0] * 16)]))
+        three = Job([SLOT, Pich(18, "0" * 18), Aich([0] * 16)])
+        self.assertEqual(eval(repr(three), {**vars(job), "Digits": slt.Digits}), three)
 
 
 class Widths(unittest.TestCase):
@@ -192,21 +194,22 @@ class Widths(unittest.TestCase):
         self.assertEqual(at, 55)
         self.assertEqual(self.wide(6, slots + bytes(5)), [*whole, "refused 25 55"])
         self.assertEqual(self.wide(6, slots + bytes(6)), [*whole, "refused 25 55"])
-        for rest, end in ((b"", "24 55"), (b"\3\1\1\1\0", "24 60"), (b"\3\1\1\1\0\1", "20 60"), (b"\3\1\1\1\0\1\1\0", "20 60"), (b"\3\1\17\1\0\1\1\0", "20 60"), (b"\3\1\1\1\7\7", "20 60"),
-                          (b"\3\x11\1\1\0\1", "1 0"), (b"\4\1\1\1\0\1", "23 55"), (b"\1\1\1\1\1", "24 60"), (b"\1\1\1\1\1\1", "20 60"), (b"\2\x12\1\1\1\1", "20 60")):
+        early = [(b"", "24 55"), (b"\3\1\1\1\0", "24 60"), (b"\1\1\1\1\1", "24 60"), (b"\3\x11\1\1\0\1", "1 0"), (b"\4\1\1\1\0\1", "23 55")]
+        over = [b"\3\1\1\1\0\1", b"\3\1\1\1\0\1\1\0", b"\3\1\17\1\0\1\1\0", b"\3\1\1\1\7\7", b"\1\1\1\1\1\1", b"\2\x12\1\1\1\1"]
+        for rest, end in early + [(rest, "20 60") for rest in over]:
             self.assertEqual(self.wide(7, slots + rest), ["SLT 2 7", *line, f"refused {end}"], rest)
 
     def test_limit_at_a_kind_and_behind_it(self) -> None:
-        """Where the limit falls on a kind, on an Np or a format, and behind the last record."""
-        for head in (b"\3\0\0\0\1\0\1\0",):
-            for longest in (15, 16, 17, 18):
-                with mock.patch.object(job, "VERSIONS", [self.WIDE._replace(longest=longest)]):
-                    first = ["SLT 2 2", "DPCH 0 0 0010101111"]
-                    for second in (b"\3", b"\2", b"\1", b"\t"):
-                        rest = head + (second + b"\0\0\0\1\0\1\0")[: longest + 1 - 15]
-                        wanted = "refused 20 15" if longest == 15 else "refused 23 15" if second == b"\t" else "refused 8 0" if second == b"\2" and longest > 16 else f"refused 20 {longest}"
-                        self.assertEqual(self.wide(2, rest), [*first, wanted], (second, longest))
-                    self.assertEqual(self.wide(1, head + b"\0"), ["SLT 2 1", first[1], "refused 20 15" if longest == 15 else "refused 25 15"])
+        """Where the limit falls on a kind, on an Np or a format, on a byte behind it, and behind the last record."""
+        good, first = bytes(Dpch(0, 0, tpc=0, data="1010")), ["SLT 2 2", "DPCH 0 0 0010101111"]
+        at = 7 + len(good)
+        for longest in (at, at + 1, at + 2, at + 3):
+            with mock.patch.object(job, "VERSIONS", [self.WIDE._replace(longest=longest)]):
+                over = f"refused 20 {longest}"
+                for kind, wrong in ((b"\1", over), (b"\2", "refused 8 0" if longest > at + 1 else over), (b"\3", over), (b"\t", f"refused 23 {at}")):
+                    rest = (kind + good[1:])[: longest + 1 - at]
+                    self.assertEqual(self.wide(2, good + rest), [*first, over if longest == at else wrong], (kind, longest))
+                self.assertEqual(self.wide(1, good + b"\0"), ["SLT 2 1", first[1], over if longest == at else f"refused 25 {at}"])
 
     def test_the_first_version_counts_first(self) -> None:
         """Behind mark and version, where there is a version that does not count first."""

@@ -150,4 +150,5 @@ class Wheel(unittest.TestCase):
         wheel = self.made()
         self.assertEqual(wheel.name, f"slt-{slt.__version__}-py3-none-any.whl")
         with zipfile.ZipFile(wheel) as archive:
-            self.assertEqual({name for name in archive.namelist() if name.startswith("slt/")}, {f"slt/{path.name}" for path in support.PACKAGE.iterdir() if path.suffix in (".py", ".typed")})
+            files = {f"slt/{path.name}" for path in support.PACKAGE.iterdir() if path.suffix in (".py", ".typed")}
+            self.assertEqual({name for name in archive.namelist() if name.startswith("slt/")}, files)

@@ -51,7 +51,8 @@ class Page(unittest.TestCase):
 
     def test_what_is_shown_elsewhere(self) -> None:
         """The lines with >>> of the package's own text and of both first pages."""
-        ended = [doctest.testmod(slt), *(doctest.testfile(str(support.ROOT / page), module_relative=False, globs={"slt": slt}) for page in ("README.md", "python/README.md"))]
+        ended = [doctest.testmod(slt)]
+        ended += [doctest.testfile(str(support.ROOT / page), module_relative=False, globs={"slt": slt}) for page in ("README.md", "python/README.md")]
         self.assertEqual([found.failed for found in ended], [0, 0, 0])
         self.assertTrue(all(found.attempted for found in ended))
 
