@@ -1,0 +1,189 @@
+// The driver: asked line by line on its standard input, it answers each with one line. judging/driver.py is its other end. A step is
+// written INPUTS/THEN/GAP/RESET, vectors in hexadecimal, - for none; mutant 0 is the original.
+//
+//     bench FILE             reads a bench                     -> lines COUNT
+//     stimuli                the judge's own list              -> stimuli COUNT every|sample LONGEST
+//     kill MUTANT            runs the bench                    -> survived | killed LINE FAULT
+//     line MUTANT LINE       runs one line of the bench, from 1
+//     search MUTANT          runs the list                     -> none COUNT PINS | fault COUNT POWER STEP... (the last one shows it)
+//     try MUTANT POWER STEP...                                 -> good | bad INDEX FAULT PLACE GAVE
+//     show STEP              -> TEXT, the bits that mean something, what the standard says, the call and its answer; tabs between
+//     step TEXT              -> the step of a line
+#include <cstdio>
+#include <cstdlib>
+#include <fstream>
+#include <iostream>
+#include <sstream>
+
+#include "contract.h"
+#include "device.h"
+#include "stimuli.h"
+
+namespace {
+
+const char *const FAULTS[] = {"none", "digit", "length", "not-refused", "refused", "reset"};
+
+std::vector<Line> bench;
+Stimuli stimuli;
+std::vector<std::vector<Pins>> original;   // the pins of the original for each stimulus
+
+// Which pins differ, in the widest sense that a comparison of all of them sees: in idle cycles, in the bit under DTX, or in what is
+// defined but at another time.
+struct PinDifference {
+    bool idle = false, dtx = false, defined = false;
+    void add(const std::vector<Pins> &a, const std::vector<Pins> &b) {
+        for (size_t k = 0; k < a.size() && k < b.size(); k++) {
+            bool value = a[k].value != b[k].value, silent = a[k].dtx != b[k].dtx;
+            if (a[k].valid != b[k].valid || a[k].refused != b[k].refused) defined = true;
+            else if (!a[k].valid) idle |= value || silent;
+            else if (silent) defined = true;
+            else if (a[k].dtx) dtx |= value;
+            else defined |= value;
+        }
+    }
+    const char *word() const { return defined ? "time" : dtx ? "dtx" : idle ? "idle" : "same"; }
+};
+
+std::string step_text(const Step &step) {
+    return step.inputs.hex() + "/" + (step.then.size() ? step.then.hex() : "-") + "/" + std::to_string(step.gap) + "/" +
+           (step.reset_at < 0 ? "-" : std::to_string(step.reset_at));
+}
+
+Step step_of(const std::string &text) {
+    std::istringstream in(text);
+    std::string inputs, then, gap, reset_at;
+    std::getline(in, inputs, '/');
+    std::getline(in, then, '/');
+    std::getline(in, gap, '/');
+    std::getline(in, reset_at, '/');
+    Step step;
+    step.inputs = Bits::of_hex(CONTRACT.bits, inputs);
+    if (then != "-") step.then = Bits::of_hex(CONTRACT.bits, then);
+    step.gap = unsigned(std::stoul(gap));
+    step.reset_at = reset_at == "-" ? -1 : std::stoi(reset_at);
+    return step;
+}
+
+const Line &named(const std::string &name) {
+    for (const Line &line : bench)
+        if (line.name == name) return line;
+    std::fprintf(stderr, "the bench has no line %s\n", name.c_str());
+    std::exit(2);
+}
+
+// The line on the circuit as it is now, after the one that it says comes before it.
+Fault run_line(Device &device, const Line &line) {
+    if (!line.after.empty()) {
+        Fault before = run_line(device, named(line.after));
+        if (before.kind != Fault::NONE) return before;
+    }
+    Gave gave = device.run(line.step, meaning_of(line.step.inputs));
+    return fault_of(line.step, line.refused, line.expected, gave);
+}
+
+Fault run_alone(unsigned mutant, const Line &line) {
+    Device device(mutant, line.power);
+    if (device.reset().after_reset) return {Fault::RESET, 0};
+    return run_line(device, line);
+}
+
+void read_bench(const std::string &path) {
+    bench.clear();
+    std::ifstream in(path);
+    for (std::string text; std::getline(in, text);)
+        if (text.find_first_not_of(" \t") != std::string::npos && text[0] != '#') bench.push_back(line_of(text));
+    std::cout << "lines " << bench.size();
+}
+
+void say_lines(unsigned mutant, size_t from, size_t to) {
+    for (size_t k = from; k < to && k < bench.size(); k++) {
+        Fault fault = run_alone(mutant, bench[k]);
+        if (fault.kind == Fault::NONE) continue;
+        std::cout << "killed " << (bench[k].name.empty() ? std::to_string(k + 1) : bench[k].name) << " " << FAULTS[fault.kind];
+        return;
+    }
+    std::cout << "survived";
+}
+
+void say_stimuli() {
+    stimuli = judges_stimuli();
+    size_t longest = 0;
+    for (const Stimulus &s : stimuli.list) longest = std::max(longest, s.meaning.said.size());
+    std::cout << "stimuli " << stimuli.list.size() << (stimuli.every ? " every " : " sample ") << longest;
+}
+
+void say_found(size_t at) {
+    size_t power = at / stimuli.power_up_every, first = power * stimuli.power_up_every;
+    std::cout << "fault " << at + 1 << " " << power;
+    for (size_t k = std::max(first, at < 3 ? 0 : at - 3); k <= at; k++) std::cout << " " << step_text(stimuli.list[k].step);
+}
+
+void search(unsigned mutant) {
+    std::unique_ptr<Device> device;
+    PinDifference pins;
+    bool first = mutant == 0;
+    for (size_t k = 0; k < stimuli.list.size(); k++) {
+        const Stimulus &s = stimuli.list[k];
+        unsigned idle = 0;
+        if (k % stimuli.power_up_every == 0) {
+            device = std::make_unique<Device>(mutant, unsigned(k / stimuli.power_up_every));
+            idle = device->reset().after_reset;
+        }
+        Gave gave = device->run(s.step, s.meaning);
+        gave.after_reset += idle;
+        if (fault_of(s.step, s.meaning.refused, s.meaning.said, gave).kind != Fault::NONE) return say_found(k);
+        if (first) original.push_back(gave.pins);
+        else pins.add(original[k], gave.pins);
+    }
+    std::cout << "none " << stimuli.list.size() << " " << pins.word();
+}
+
+void try_steps(unsigned mutant, unsigned power, std::istringstream &words) {
+    Device device(mutant, power);
+    unsigned idle = device.reset().after_reset;
+    std::string text;
+    for (size_t k = 0; words >> text; k++) {
+        Step step = step_of(text);
+        Meaning m = meaning_of(step.inputs);
+        Gave gave = device.run(step, m);
+        gave.after_reset += idle;
+        Fault fault = fault_of(step, m.refused, m.said, gave);
+        if (fault.kind == Fault::NONE) continue;
+        std::cout << "bad " << k << " " << FAULTS[fault.kind] << " " << fault.place << " " << run_text(gave.digits, CONTRACT.numbers);
+        return;
+    }
+    std::cout << "good";
+}
+
+void show(const Step &step) {
+    Meaning m = meaning_of(step.inputs);
+    std::cout << text_of(step) << "\t" << m.used.hex() << "\t" << (m.refused ? "refused" : run_text(m.said, CONTRACT.numbers)) << "\t"
+              << answer_words(m);
+}
+
+void answer(const std::string &command, std::istringstream &words) {
+    unsigned mutant = 0, power = 0;
+    size_t line = 0;
+    std::string text;
+    if (command == "bench" && words >> text) read_bench(text);
+    else if (command == "stimuli") say_stimuli();
+    else if (command == "kill" && words >> mutant) say_lines(mutant, 0, bench.size());
+    else if (command == "line" && words >> mutant >> line) say_lines(mutant, line - 1, line);
+    else if (command == "search" && words >> mutant) search(mutant);
+    else if (command == "try" && words >> mutant >> power) try_steps(mutant, power, words);
+    else if (command == "show" && words >> text) show(step_of(text));
+    else if (command == "step" && std::getline(words, text)) std::cout << step_text(line_of(text).step);
+    else std::cout << "no such command";
+}
+
+}  // namespace
+
+int main() {
+    for (std::string request; std::getline(std::cin, request);) {
+        std::istringstream words(request);
+        std::string command;
+        words >> command;
+        answer(command, words);
+        std::cout << std::endl;
+    }
+}
