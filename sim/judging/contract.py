@@ -35,7 +35,8 @@ class Contract:
     reset: str = ""
     reset_high: bool = True
     start: str = ""
-    busy: str = ""
+    busy: str = ""           # a wire or pin that is 1 while no start may come
+    idle: str = ""           # or one that is 1 while one may
     first: int = 1
     fields: list = dataclasses.field(default_factory=list)
     fixed: dict = dataclasses.field(default_factory=dict)
@@ -53,6 +54,10 @@ class Contract:
     def input_pins(self):
         """The pins of the input vector, lowest bits first."""
         return [pin for field in self.fields for pin in (field.pin, field.dtx) if pin]
+
+    def rest_wire(self):
+        """The wire that says when a start may come."""
+        return self.busy or self.idle
 
     def output_pins(self):
         """The pins that the judge looks at."""
@@ -102,7 +107,7 @@ def take_output(contract, words):
 
 def take(contract, word, words):
     """One line of the file."""
-    if word in ("circuit", "source", "call", "clock", "start", "busy", "refused"):
+    if word in ("circuit", "source", "call", "clock", "start", "busy", "idle", "refused"):
         setattr(contract, word, words[0])
     elif word == "reset":
         contract.reset, contract.reset_high = words[0], words[1] == "high"
@@ -130,7 +135,9 @@ def read(path):
                 take(contract, words[0], words[1:])
         except (Wrong, ValueError, KeyError, IndexError, AttributeError) as fault:
             raise Wrong(f"{path}, line {number}: {text.strip()} ({fault})") from fault
-    for word in ("circuit", "call", "clock", "reset", "start", "busy", "valid", "value"):
+    for word in ("circuit", "call", "clock", "reset", "start", "valid", "value"):
         if not getattr(contract, word):
             raise Wrong(f"{path} says no {word}")
+    if bool(contract.busy) == bool(contract.idle):
+        raise Wrong(f"{path} says either busy or idle")
     return contract

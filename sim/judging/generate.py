@@ -138,35 +138,59 @@ def differs(contract):
     return f"(a_{contract.valid} != b_{contract.valid}){refused} | a_{contract.valid} & {value}"
 
 
-def miter(contract, module, one_stream):
-    """The miter: bad is 1 where the modules original and mutant differ in what is defined. Resets and starts come at any time that the
-    contract allows; with one_stream there is one reset and one start right behind it, and all other inputs are free."""
-    width = widths(module)
-    level = "" if contract.reset_high else "!"
-    stop, go = ("!ready", "ready & !started") if one_stream else ("free_reset", "free_start & !stop & !busy")
-    inputs = "\n".join(f"    input  wire {vector(width[pin])}{pin}," for pin in contract.input_pins())
-    body = "\n".join(f"    wire {vector(width[pin])}{p}_{pin};" for p in "ab" for pin in contract.output_pins())
-    busy = "" if contract.busy in contract.output_pins() else f", .{contract.busy}(busy)"
-    return f"""module miter (
-    input  wire {contract.clock},
+def registers(contract, module):
+    """The registers of a circuit that are no output, by name and width."""
+    driven = {bit for cell in module["cells"].values() if "dff" in cell["type"] for bit in cell["connections"]["Q"]}
+    return {name: len(net["bits"]) for name, net in module["netnames"].items()
+            if not net["hide_name"] and name not in module["ports"] and set(net["bits"]) <= driven}
+
+
+def inner(contract, module):
+    """What of a circuit's inside the miter looks at: its registers, and the wire that says when a start may come."""
+    found = registers(contract, module)
+    if contract.rest_wire() not in contract.output_pins():
+        found.setdefault(contract.rest_wire(), 1)
+    return found
+
+
+MITER = """// bad is 1 where the modules original and mutant differ in what is defined; unlike is 1 there and where their registers differ. Where
+// unlike is never 1, bad is not either, and that is often easier to prove.
+module miter (
+    input  wire {clock},
     input  wire free_reset,
     input  wire free_start,
 {inputs}
-    output wire bad
+    output wire bad,
+    output wire unlike
 );
-    wire busy{f" = a_{contract.busy}" if not busy else ""};
+{wires}
     reg  ready = 0;      // there has been a reset
     reg  started = 0;
     wire stop = {stop};
-    wire {contract.start} = {go};
-    wire {contract.reset} = {level}stop;
-    always @(posedge {contract.clock}) begin
+    wire {start} = {go};
+    wire {reset} = {level}stop;
+    always @(posedge {clock}) begin
         ready   <= ready | stop;
-        started <= started | {contract.start};
+        started <= started | {start};
     end
-{body}
-{instance("original", "a", contract, "a_", busy)}
-{instance("mutant", "b", contract, "b_")}
-    assign bad = ready & ({differs(contract)});
+{original}
+{mutant}
+    assign bad = ready & ({differs});
+    assign unlike = bad | ready & ({registers});
 endmodule
 """
+
+
+def miter(contract, module, one_stream):
+    """The miter. Resets and starts come at any time that the contract allows; with one_stream there is one reset, then one start, and
+    all other inputs are free."""
+    width, looked_at = widths(module), inner(contract, module)
+    stop, go = ("!ready", "ready & !started") if one_stream else ("free_reset", f"free_start & !stop & {'!' if contract.busy else ''}a_{contract.rest_wire()}")
+    wires = [(pin, width[pin]) for pin in contract.output_pins()] + list(looked_at.items())
+    joined = {p: "".join(f", .{name}({p}{name})" for name in looked_at) for p in ("a_", "b_")}
+    return MITER.format(
+        clock=contract.clock, start=contract.start, reset=contract.reset, level="" if contract.reset_high else "!", stop=stop, go=go,
+        inputs="\n".join(f"    input  wire {vector(width[pin])}{pin}," for pin in contract.input_pins()),
+        wires="\n".join(f"    wire {vector(bits)}a_{name}, b_{name};" for name, bits in wires),
+        original=instance("original", "a", contract, "a_", joined["a_"]), mutant=instance("mutant", "b", contract, "b_", joined["b_"]),
+        differs=differs(contract), registers=" | ".join(f"(a_{name} != b_{name})" for name in looked_at))

@@ -13,7 +13,7 @@ class Mutant:
     command: str = ""        # of yosys
     lines: str = ""          # of the source
     what: str = ""
-    planted: str = ""        # the name of the plant
+    prepared: str = ""       # a planted one: its own file, prepared as the original is
 
 
 def prepare(contract, work):

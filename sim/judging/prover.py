@@ -6,11 +6,10 @@ import driver
 import generate
 import tools
 
-# Limits by work and not by time, so that a verdict does not depend on how busy the machine is. The seconds are for the case that the
-# work is more than was thought: they are far above what is needed.
-FRAMES = 200
-CONFLICTS = 2000
-SECONDS = 60
+# Limits by work and not by time, so that a verdict does not depend on how busy the machine is: timeframes, and conflicts in one call of
+# the SAT solver. The seconds are only there so that a run ends; what stops by them is told as open.
+QUICK = "-F 12 -C 1000 -T 120"
+DEEP = "-F 60 -C 20000 -T 300"
 
 
 @dataclasses.dataclass
@@ -21,7 +20,7 @@ class Answer:
 
 
 class Prover:
-    """Proves mutants of one circuit."""
+    """Proves mutants of one circuit, one at a time, in a directory of its own."""
 
     def __init__(self, contract, module, work, circuit_work):
         self.contract, self.module, self.work, self.prepared = contract, module, work, circuit_work / "prepared.il"
@@ -31,18 +30,17 @@ class Prover:
 
     def aiger(self, mutant, name):
         """The miter of a mutant as and-gates and registers that begin with 0."""
-        busy = self.contract.busy
-        expose = "" if busy in self.contract.output_pins() else f"expose original/w:{busy}"
-        source = mutant.planted_il if mutant.planted else self.prepared
+        looked_at = generate.inner(self.contract, self.module)
+        expose = " ".join(f"{module}/w:{wire}" for module in ("original", "mutant") for wire in looked_at)
         # pmux before any opt, as in the netlists; dffunmap last, since opt makes enables and resets anew.
         tools.yosys(f"""
 read_rtlil {self.prepared}
 rename {self.contract.circuit} original
-read_rtlil {source}
+read_rtlil {mutant.prepared or self.prepared}
 {mutant.command}
 rename {self.contract.circuit} mutant
 techmap t:$pmux
-{expose}
+expose {expose}
 read_verilog {self.work}/{name}.v
 hierarchy -check -top miter
 proc
@@ -57,29 +55,43 @@ opt_clean
 write_aiger -symbols {self.work}/{name}.aig
 """, self.work, name)
 
-    def abc(self, name, commands):
-        """What ABC says to a miter."""
+    def abc(self, name, output, commands):
+        """What ABC says to an output of a miter: proved, differs, open; and the file of the counterexample."""
         cex = self.work / f"{name}.cex"
         cex.unlink(missing_ok=True)
-        script = f"read_aiger {self.work}/{name}.aig; {commands}; write_cex -n {cex}"
-        return tools.run(["yosys-abc", "-c", script], self.work / f"{name}.abc.log"), cex
+        script = f"read_aiger {self.work}/{name}.aig; cone -s -O {output}; {commands}; write_cex -n {cex}"
+        said = tools.run(["yosys-abc", "-c", script], self.work / f"{name}.abc.log")
+        if "was asserted" in said:
+            return "differs", cex
+        return ("proved" if "Property proved" in said or "Networks are equivalent" in said else "open"), cex
 
     def prove(self, mutant):
-        """For every input in every history."""
+        """For every input in every history, with little work: first with the registers, then without."""
         self.aiger(mutant, "history")
-        said, cex = self.abc("history", f"scorr; pdr -F {FRAMES} -C {CONFLICTS} -T {SECONDS}")
-        if "Property proved" in said or "Networks are equivalent" in said:
+        if self.abc("history", 1, f"scorr; pdr {QUICK}")[0] == "proved":
             return Answer("equal")
-        return self.counterexample(cex) if "was asserted" in said else Answer("open")
+        return self.history(QUICK)
 
-    def prove_stream(self, mutant, longest):
-        """For every input of one stream behind a reset."""
+    def prove_deep(self, mutant, longest):
+        """What prove left open, and simulation too: with more work; then for every input of one stream behind a reset."""
+        self.aiger(mutant, "history")
+        answer = self.history(DEEP)
+        if answer.word != "open":
+            return answer
         self.aiger(mutant, "stream")
         frames = longest + self.contract.first + 8
-        said, cex = self.abc("stream", f"scorr; bmc3 -F {frames} -C {CONFLICTS} -T {SECONDS}")
-        if f"No output asserted in {frames} frames" in said or "Property proved" in said:
-            return Answer("stream")
-        return self.counterexample(cex) if "was asserted" in said else Answer("open")
+        word, cex = self.abc("stream", 0, f"scorr; bmc3 -F {frames} -C 20000 -T 300")
+        if word == "differs":
+            return self.counterexample(cex)
+        said = (self.work / "stream.abc.log").read_text()
+        return Answer("stream" if word == "proved" or f"No output asserted in {frames} frames" in said else "open")
+
+    def history(self, limits):
+        """Of the miter without registers, as it was made last."""
+        word, cex = self.abc("history", 0, f"scorr; pdr {limits}")
+        if word == "differs":
+            return self.counterexample(cex)
+        return Answer("equal" if word == "proved" else "open")
 
     def counterexample(self, cex):
         """The starts of a counterexample."""
@@ -87,8 +99,8 @@ write_aiger -symbols {self.work}/{name}.aig
 
 
 def starts(contract, width, text):
-    """The steps of a counterexample, 'name[bit]@cycle=value' for each input. A start that the miter holds back is left in the list:
-    the driver brings each at its own time anyway."""
+    """The steps of a counterexample, 'name[bit]@cycle=value' for each input. A start that the miter holds back stays in the list: the
+    driver brings each at its own time, and looks for the shortest end of the list that shows the difference."""
     at, _ = generate.places(contract, width)
     cycles = {}
     for name, bit, cycle, value in re.findall(r"([^\s@\[\]]+)(?:\[(\d+)\])?@(\d+)=([01])", text):
@@ -96,9 +108,8 @@ def starts(contract, width, text):
     steps = []
     for cycle in sorted(cycles):
         pins = cycles[cycle]
-        if not pins.get(("free_start", 0), 1) or pins.get(("free_reset", 0), 0):
-            continue
-        steps.append(driver.Step(vector(contract, at, pins), vector(contract, at, cycles.get(cycle + 1, {}))))
+        if pins.get(("free_start", 0), 1) and not pins.get(("free_reset", 0), 0):
+            steps.append(driver.Step(vector(contract, at, pins), vector(contract, at, cycles.get(cycle + 1, {}))))
     return steps
 
 
