@@ -6,6 +6,8 @@
 //     kill MUTANT            runs the bench                    -> survived | killed LINE FAULT
 //     line MUTANT LINE       runs one line of the bench, from 1
 //     search MUTANT          runs the list                     -> none COUNT PINS | fault COUNT POWER STEP... (the last one shows it)
+//     plain MUTANT           runs each of the list by itself, as a bench drives it: zeros on pins that mean nothing, inputs held
+//                                                              -> none COUNT | fault COUNT STEP
 //     try MUTANT POWER STEP...                                 -> good | bad INDEX FAULT PLACE GAVE
 //     show STEP              -> TEXT, the bits that mean something, what the standard says, the call and its answer; tabs between
 //     step TEXT              -> the step of a line
@@ -138,6 +140,31 @@ void search(unsigned mutant) {
     std::cout << "none " << stimuli.list.size() << " " << pins.word();
 }
 
+// The stimulus with zeros on the pins that mean nothing, inputs held, and no reset.
+Step in_plain_manner(const Stimulus &s) {
+    Step step;
+    step.inputs = s.step.inputs;
+    for (size_t k = 0; k < CONTRACT.bits; k++)
+        if (!s.meaning.used[k]) step.inputs.set(k, false);
+    return step;
+}
+
+void search_plain(unsigned mutant) {
+    for (size_t k = 0; k < stimuli.list.size(); k++) {
+        const Stimulus &s = stimuli.list[k];
+        Step step = in_plain_manner(s);
+        Device device(mutant, 0);
+        Gave gave = device.reset();
+        unsigned idle = gave.after_reset;
+        gave = device.run(step, s.meaning);
+        gave.after_reset += idle;
+        if (fault_of(step, s.meaning.refused, s.meaning.said, gave).kind == Fault::NONE) continue;
+        std::cout << "fault " << k + 1 << " " << step_text(step);
+        return;
+    }
+    std::cout << "none " << stimuli.list.size();
+}
+
 void try_steps(unsigned mutant, unsigned power, std::istringstream &words) {
     Device device(mutant, power);
     unsigned idle = device.reset().after_reset;
@@ -170,6 +197,7 @@ void answer(const std::string &command, std::istringstream &words) {
     else if (command == "kill" && words >> mutant) say_lines(mutant, 0, bench.size());
     else if (command == "line" && words >> mutant >> line) say_lines(mutant, line - 1, line);
     else if (command == "search" && words >> mutant) search(mutant);
+    else if (command == "plain" && words >> mutant) search_plain(mutant);
     else if (command == "try" && words >> mutant >> power) try_steps(mutant, power, words);
     else if (command == "show" && words >> text) show(step_of(text));
     else if (command == "step" && std::getline(words, text)) std::cout << step_text(line_of(text).step);

@@ -83,6 +83,11 @@ class Driver:
             return int(count), rest[0], 0, []
         return int(count), None, int(rest[0]), [step_of(text) for text in rest[1:]]
 
+    def search_plain(self, mutant):
+        """The first of the judge's stimuli that shows a mutant by itself and as a bench drives it, or nothing."""
+        word, _, *step = self.ask(f"plain {mutant}").split()
+        return step_of(step[0]) if word == "fault" else None
+
     def attempt(self, mutant, power, steps):
         """What is wrong with these steps behind a power-up and a reset, or nothing."""
         answer = self.ask(f"try {mutant} {power} " + " ".join(step.text() for step in steps)).split()

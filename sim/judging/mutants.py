@@ -19,12 +19,15 @@ class Mutant:
 def prepare(contract, work):
     """The circuit as yosys sees it, in a file that keeps the names which the list of mutants uses; and its cells and ports."""
     # flatten: mutate adds its input to one module only. -norom: else large tables become memories, which mutate leaves alone.
+    # chtype, setundef: what has no value in yosys would have one in a simulator, and not the same one: an index out of range gives 0.
     tools.yosys(f"""
 read_verilog {contract.verilog()}
 hierarchy -check -top {contract.circuit}
 flatten
 proc -norom
 opt -full
+chtype -set $shift t:$shiftx
+setundef -zero
 write_rtlil {work}/prepared.il
 write_json {work}/prepared.json
 """, work, "prepare")

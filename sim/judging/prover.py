@@ -27,27 +27,40 @@ class Prover:
         work.mkdir(parents=True, exist_ok=True)
         for name, one in (("history", False), ("stream", True)):
             (work / f"{name}.v").write_text(generate.miter(contract, module, one))
+        self.prepare_original()
 
-    def aiger(self, mutant, name):
-        """The miter of a mutant as and-gates and registers that begin with 0."""
-        looked_at = generate.inner(self.contract, self.module)
-        expose = " ".join(f"{module}/w:{wire}" for module in ("original", "mutant") for wire in looked_at)
+    def prepare_original(self):
+        """The original as gates, once."""
         # pmux before any opt, as in the netlists; dffunmap last, since opt makes enables and resets anew.
         tools.yosys(f"""
 read_rtlil {self.prepared}
 rename {self.contract.circuit} original
+techmap t:$pmux
+expose {self.exposed("original")}
+techmap
+opt
+dffunmap
+write_rtlil {self.work}/original.il
+""", self.work, "original")
+
+    def exposed(self, module):
+        """The wires of a module that the miter looks at."""
+        return " ".join(f"{module}/w:{wire}" for wire in generate.inner(self.contract, self.module))
+
+    def aiger(self, mutant, name):
+        """The miter of a mutant as and-gates and registers that begin with 0."""
+        tools.yosys(f"""
+read_rtlil {self.work}/original.il
 read_rtlil {mutant.prepared or self.prepared}
 {mutant.command}
 rename {self.contract.circuit} mutant
 techmap t:$pmux
-expose {expose}
+expose {self.exposed("mutant")}
 read_verilog {self.work}/{name}.v
 hierarchy -check -top miter
 proc
-flatten
-opt -full
 techmap
-opt
+flatten
 dffunmap
 setundef -init -zero
 aigmap

@@ -84,10 +84,18 @@ class Court:
         case = simplify.first_shown(self.driver, verdict.number, power, steps, self.bits) if steps else None
         if not case:
             return False
-        case = simplify.simplest(self.driver, verdict.number, case, self.fields, self.bits)
+        case = self.simplest(verdict.number, case)
         shown = [self.driver.show(step) for step in case.steps]
         verdict.kind, verdict.fault, verdict.place, verdict.gave = "missed", case.bad.fault, case.bad.place, case.bad.gave
         verdict.power, verdict.steps, verdict.texts = case.power, [step.text() for step in case.steps], [s.line for s in shown]
         verdict.said, verdict.answer = shown[-1].said, shown[-1].answer
         verdict.manner = simplify.manner(self.driver, case)
         return True
+
+    def simplest(self, number, case):
+        """The simplest case. Where it needs more than a plain line, a plain one of the judge's list is looked for."""
+        case = simplify.simplest(self.driver, number, case, self.fields, self.bits)
+        step = self.driver.search_plain(number) if simplify.manner(self.driver, case) else None
+        if step is None:
+            return case
+        return simplify.simplest(self.driver, number, simplify.shown(self.driver, number, simplify.Case(0, [step])), self.fields, self.bits)
