@@ -49,6 +49,7 @@ def conclude(court, found):
     """The owed lines, seen to be right, and the reports."""
     missed = [verdict for verdict in found if verdict.kind == "missed"]
     lines = owed.owed_lines(missed, court.court_of)
+    owed.take_plainer(missed, lines, court.court_of)
     court.court_of(found[0].number)
     wrong = owed.paid(court.options.bench, lines, court.work / "bench-with-owed-lines.txt", court.courts.values(), missed, court.court_of)
     if wrong:

@@ -10,7 +10,12 @@ class Owed:
     number: int
     lines: list
     mutants: list
-    manner: list
+    verdict: object      # whose case it is
+
+    @property
+    def manner(self):
+        """What the line needs beside its inputs."""
+        return self.verdict.manner
 
 
 def shows(court, verdict, other):
@@ -44,7 +49,16 @@ def lines_of(number, verdict):
 
 def owed_lines(missed, court_of):
     """The lines that are owed, numbered from 1."""
-    return [Owed(k, lines_of(k, verdict), mutants, verdict.manner) for k, (verdict, mutants) in enumerate(cover(missed, court_of), 1)]
+    return [Owed(k, lines_of(k, verdict), mutants, verdict) for k, (verdict, mutants) in enumerate(cover(missed, court_of), 1)]
+
+
+def take_plainer(missed, owed, court_of):
+    """A mutant whose own case needs more than the line that is owed for it is told with that line."""
+    for one in owed:
+        for verdict in missed:
+            if verdict.number in one.mutants and len(verdict.manner) > len(one.manner):
+                steps = [drivers.step_of(text) for text in one.verdict.steps]
+                court_of(verdict.number).tell(verdict, one.verdict.power, steps)
 
 
 def paid(bench, owed, path, courts, missed, court_of):

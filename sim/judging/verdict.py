@@ -85,12 +85,17 @@ class Court:
         if not case:
             return False
         case = self.simplest(verdict.number, case)
+        self.tell(verdict, case.power, case.steps)
+        return True
+
+    def tell(self, verdict, power, steps):
+        """Puts a case into the verdict."""
+        case = simplify.shown(self.driver, verdict.number, simplify.Case(power, steps))
         shown = [self.driver.show(step) for step in case.steps]
         verdict.kind, verdict.fault, verdict.place, verdict.gave = "missed", case.bad.fault, case.bad.place, case.bad.gave
         verdict.power, verdict.steps, verdict.texts = case.power, [step.text() for step in case.steps], [s.line for s in shown]
         verdict.said, verdict.answer = shown[-1].said, shown[-1].answer
         verdict.manner = simplify.manner(self.driver, case)
-        return True
 
     def simplest(self, number, case):
         """The simplest case. Where it needs more than a plain line, a plain one of the judge's list is looked for."""
