@@ -47,7 +47,7 @@ Gave Device::run(const Step &step, const Meaning &m) {
         model->reset(true);
         cycle(gave, true);
         model->reset(false);
-        for (unsigned idle = 0; idle < 3; idle++) cycle(gave, true);
+        for (unsigned idle = 0; idle < step.gap; idle++) cycle(gave, true);
         break;
     }
     return gave;

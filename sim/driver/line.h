@@ -8,7 +8,7 @@
 //
 //     unused=HEX    what the pins that mean nothing hold: a vector of all inputs, of which only those bits count; 'ones'; else 0
 //     then=HEX      what all inputs hold from the cycle behind the start on; 'ones', 'inverse'; else they stay as they were
-//     gap=N         idle cycles behind the stream, 3 if not said
+//     gap=N         idle cycles behind the stream or its reset, 3 if not said
 //     reset=N       a reset comes at digit N and ends the stream
 //     after=NAME    that line comes right before it
 //     power=N       the registers hold a random state of seed N before the reset, else zeros

@@ -2,7 +2,6 @@
 import dataclasses
 import re
 
-import driver
 import generate
 import tools
 
@@ -13,10 +12,18 @@ DEEP = "-F 60 -C 20000 -T 300"
 
 
 @dataclasses.dataclass
+class Cycle:
+    """A cycle of a counterexample."""
+    reset: bool
+    start: bool      # where the circuit is busy the miter holds it back
+    inputs: int
+
+
+@dataclasses.dataclass
 class Answer:
-    """equal: in every history; stream: in one stream behind a reset, bounded; differs: with the starts that show it; open: neither."""
+    """equal: in every history; stream: in one stream behind a reset, bounded; differs: with the cycles that show it; open: neither."""
     word: str
-    steps: tuple = ()
+    cycles: tuple = ()
 
 
 class Prover:
@@ -107,25 +114,18 @@ write_aiger -symbols {self.work}/{name}.aig
         return Answer("equal" if word == "proved" else "open")
 
     def counterexample(self, cex):
-        """The starts of a counterexample."""
-        return Answer("differs", tuple(starts(self.contract, generate.widths(self.module), cex.read_text())))
+        """Its cycles."""
+        return Answer("differs", tuple(cycles_of(self.contract, generate.widths(self.module), cex.read_text())))
 
 
-def starts(contract, width, text):
-    """The steps of a counterexample, 'name[bit]@cycle=value' for each input. A start that the miter holds back stays in the list: the
-    driver brings each at its own time, and looks for the shortest end of the list that shows the difference."""
+def cycles_of(contract, width, text):
+    """The cycles of a counterexample, in which 'name[bit]@cycle=value' stands for each input. In the miter of one stream reset and start
+    are no inputs: the reset is cycle 0, the start cycle 1."""
     at, _ = generate.places(contract, width)
-    cycles = {}
+    values = {}
     for name, bit, cycle, value in re.findall(r"([^\s@\[\]]+)(?:\[(\d+)\])?@(\d+)=([01])", text):
-        cycles.setdefault(int(cycle), {})[(name, int(bit or 0))] = int(value)
-    steps = []
-    for cycle in sorted(cycles):
-        pins = cycles[cycle]
-        if pins.get(("free_start", 0), 1) and not pins.get(("free_reset", 0), 0):
-            steps.append(driver.Step(vector(contract, at, pins), vector(contract, at, cycles.get(cycle + 1, {}))))
-    return steps
-
-
-def vector(contract, at, pins):
-    """The inputs of one cycle as one number."""
-    return sum(value << (at[name] + bit) for (name, bit), value in pins.items() if name in contract.input_pins())
+        values.setdefault(int(cycle), {})[(name, int(bit or 0))] = int(value)
+    for cycle in range(max(values, default=-1) + 1):
+        pins = values.get(cycle, {})
+        inputs = sum(value << (at[name] + bit) for (name, bit), value in pins.items() if name in at)
+        yield Cycle(bool(pins.get(("free_reset", 0), cycle == 0)), bool(pins.get(("free_start", 0), cycle == 1)), inputs)

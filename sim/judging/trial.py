@@ -70,7 +70,7 @@ class Trial:
         width = generate.widths(self.module)
         at, bits = generate.places(self.contract, width)
         fields = [(at[f.pin], width[f.pin]) for f in self.contract.fields if f.kind == "number"]
-        return verdicts.Court(running, self.prover("prove"), fields, bits, self.longest, self.every)
+        return verdicts.Court(running, self.prover("prove"), self.contract.first, fields, bits, self.longest, self.every)
 
     def anchor(self, running):
         """The original itself against the library: a proof of equality with it is worth what this is worth."""

@@ -1,6 +1,7 @@
 """Gives a mutant its class: killed, missed, no difference or open."""
 import dataclasses
 
+import replay
 import simplify
 
 
@@ -34,8 +35,8 @@ class Contradiction(Exception):
 class Court:
     """What it takes to judge the mutants of one netlist."""
 
-    def __init__(self, driver, prover, fields, bits, longest, every):
-        self.driver, self.prover, self.fields, self.bits, self.longest, self.every = driver, prover, fields, bits, longest, every
+    def __init__(self, driver, prover, first, fields, bits, longest, every):
+        self.driver, self.prover, self.first, self.fields, self.bits, self.longest, self.every = driver, prover, first, fields, bits, longest, every
 
     def first_look(self, mutant):
         """Killed by the bench, or a survivor."""
@@ -48,7 +49,7 @@ class Court:
     def judge(self, verdict, mutant, answer):
         """A survivor, with what the prover said to it."""
         verdict.prover = answer.word
-        if answer.word == "differs" and self.is_missed(verdict, 0, list(answer.steps)):
+        if answer.word == "differs" and self.is_missed(verdict, 0, replay.steps_of(self.driver, self.first, answer.cycles)):
             return
         count, pins, power, steps = self.driver.search(mutant.number)
         verdict.tried, verdict.pins = count, pins or ""
@@ -72,7 +73,7 @@ class Court:
         """Neither the first proof nor simulation decides."""
         answer = self.prover.prove_deep(mutant, self.longest)
         verdict.prover = answer.word
-        if answer.word == "differs" and self.is_missed(verdict, 0, list(answer.steps)):
+        if answer.word == "differs" and self.is_missed(verdict, 0, replay.steps_of(self.driver, self.first, answer.cycles)):
             return
         if answer.word in ("equal", "stream"):
             verdict.kind, verdict.reason = "no difference", {"equal": "history", "stream": "stream"}[answer.word]
