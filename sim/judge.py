@@ -1,8 +1,8 @@
 #!/usr/bin/env python3
 """Judges the mutants of a circuit by the library: which of them the bench kills, which it misses, which make no difference.
 
-    sim/judge.py CONTRACT BENCH [--mutants N] [--seed N] [--out DIR] [--part K/N] [--jobs N]
-    sim/judge.py CONTRACT BENCH --merge DIR/part-*.json --out DIR
+    sim/judge.py CONTRACT BENCH [--mutants N] [--seed N] [--plant FILE...] [--out DIR] [--jobs N] [--part K/N]
+    sim/judge.py CONTRACT BENCH [the same] --merge DIR/part-*.json
 
 docs/SIMULATOR.md says what each class means and how an own circuit is put in.
 """

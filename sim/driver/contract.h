@@ -30,6 +30,7 @@ struct Contract {
     unsigned first;          // cycles from the start to the first digit
     bool numbers;            // the circuit streams numbers, not digits
     bool has_refused;
+    bool rest_pin;           // a pin says when a start may come
 };
 
 extern const Contract CONTRACT;

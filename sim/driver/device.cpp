@@ -72,3 +72,17 @@ Fault fault_of(const Step &step, bool refused, const Run &expected, const Gave &
     if (gave.digits.size() != asked) return {Fault::LENGTH, std::min(gave.digits.size(), asked)};
     return {};
 }
+
+unsigned Pair::reset() {
+    if (CONTRACT.rest_pin) original.reset();
+    return mutant.reset().after_reset;
+}
+
+Gave Pair::run(const Step &step, const Meaning &meaning, Fault &start) {
+    Gave gave = mutant.run(step, meaning);
+    if (!CONTRACT.rest_pin) return gave;
+    Gave right = original.run(step, meaning);
+    for (size_t k = 0; k < gave.pins.size() && start.kind == Fault::NONE; k++)
+        if (gave.pins[k].rest != right.pins[k].rest) start = {Fault::START, k};
+    return gave;
+}

@@ -8,7 +8,7 @@
 #include "line.h"
 
 struct Pins {
-    bool valid, dtx, refused;
+    bool valid, dtx, refused, rest;
     int32_t value;              // the bit, or the number
 };
 
@@ -43,8 +43,18 @@ class Device {
 
 // Did the circuit do what is asked? Which of the faults it has first, and where.
 struct Fault {
-    enum Kind { NONE, DIGIT, LENGTH, NOT_REFUSED, REFUSED, RESET };
+    enum Kind { NONE, DIGIT, LENGTH, NOT_REFUSED, REFUSED, RESET, START };
     Kind kind = NONE;
     size_t place = 0;
 };
 Fault fault_of(const Step &step, bool refused, const Run &expected, const Gave &gave);
+
+// A mutant and the original beside it. What pins say of when a start may come is not the standard's: there the original's word counts.
+class Pair {
+    Device mutant, original;
+
+  public:
+    Pair(unsigned number, unsigned power) : mutant(number, power), original(0, power) {}
+    unsigned reset();            // digits and refusals behind it
+    Gave run(const Step &step, const Meaning &meaning, Fault &start);
+};

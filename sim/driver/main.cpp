@@ -23,7 +23,7 @@
 
 namespace {
 
-const char *const FAULTS[] = {"none", "digit", "length", "not-refused", "refused", "reset"};
+const char *const FAULTS[] = {"none", "digit", "length", "not-refused", "refused", "reset", "start"};
 
 std::vector<Line> bench;
 Stimuli stimuli;
@@ -73,20 +73,28 @@ const Line &named(const std::string &name) {
     std::exit(2);
 }
 
+// One step of a pair, and the first thing that is wrong with it.
+Fault run_step(Pair &pair, const Step &step, const Meaning &m, bool refused, const Run &expected, unsigned idle, Gave &gave) {
+    Fault start;
+    gave = pair.run(step, m, start);
+    gave.after_reset += idle;
+    Fault fault = fault_of(step, refused, expected, gave);
+    return fault.kind == Fault::NONE ? start : fault;
+}
+
 // The line on the circuit as it is now, after the one that it says comes before it.
-Fault run_line(Device &device, const Line &line) {
+Fault run_line(Pair &pair, const Line &line, unsigned idle) {
     if (!line.after.empty()) {
-        Fault before = run_line(device, named(line.after));
+        Fault before = run_line(pair, named(line.after), idle);
         if (before.kind != Fault::NONE) return before;
     }
-    Gave gave = device.run(line.step, meaning_of(line.step.inputs));
-    return fault_of(line.step, line.refused, line.expected, gave);
+    Gave gave;
+    return run_step(pair, line.step, meaning_of(line.step.inputs), line.refused, line.expected, idle, gave);
 }
 
 Fault run_alone(unsigned mutant, const Line &line) {
-    Device device(mutant, line.power);
-    if (device.reset().after_reset) return {Fault::RESET, 0};
-    return run_line(device, line);
+    Pair pair(mutant, line.power);
+    return run_line(pair, line, pair.reset());
 }
 
 void read_bench(const std::string &path) {
@@ -121,20 +129,19 @@ void say_found(size_t at) {
 }
 
 void search(unsigned mutant) {
-    std::unique_ptr<Device> device;
+    std::unique_ptr<Pair> pair;
     PinDifference pins;
-    bool first = mutant == 0;
+    if (mutant == 0) original.clear();
     for (size_t k = 0; k < stimuli.list.size(); k++) {
         const Stimulus &s = stimuli.list[k];
         unsigned idle = 0;
         if (k % stimuli.power_up_every == 0) {
-            device = std::make_unique<Device>(mutant, unsigned(k / stimuli.power_up_every));
-            idle = device->reset().after_reset;
+            pair = std::make_unique<Pair>(mutant, unsigned(k / stimuli.power_up_every));
+            idle = pair->reset();
         }
-        Gave gave = device->run(s.step, s.meaning);
-        gave.after_reset += idle;
-        if (fault_of(s.step, s.meaning.refused, s.meaning.said, gave).kind != Fault::NONE) return say_found(k);
-        if (first) original.push_back(gave.pins);
+        Gave gave;
+        if (run_step(*pair, s.step, s.meaning, s.meaning.refused, s.meaning.said, idle, gave).kind != Fault::NONE) return say_found(k);
+        if (mutant == 0) original.push_back(gave.pins);
         else pins.add(original[k], gave.pins);
     }
     std::cout << "none " << stimuli.list.size() << " " << pins.word();
@@ -153,12 +160,10 @@ void search_plain(unsigned mutant) {
     for (size_t k = 0; k < stimuli.list.size(); k++) {
         const Stimulus &s = stimuli.list[k];
         Step step = in_plain_manner(s);
-        Device device(mutant, 0);
-        Gave gave = device.reset();
-        unsigned idle = gave.after_reset;
-        gave = device.run(step, s.meaning);
-        gave.after_reset += idle;
-        if (fault_of(step, s.meaning.refused, s.meaning.said, gave).kind == Fault::NONE) continue;
+        Pair pair(mutant, 0);
+        Gave gave;
+        unsigned idle = pair.reset();
+        if (run_step(pair, step, s.meaning, s.meaning.refused, s.meaning.said, idle, gave).kind == Fault::NONE) continue;
         std::cout << "fault " << k + 1 << " " << step_text(step);
         return;
     }
@@ -166,15 +171,14 @@ void search_plain(unsigned mutant) {
 }
 
 void try_steps(unsigned mutant, unsigned power, std::istringstream &words) {
-    Device device(mutant, power);
-    unsigned idle = device.reset().after_reset;
+    Pair pair(mutant, power);
+    unsigned idle = pair.reset();
     std::string text;
     for (size_t k = 0; words >> text; k++) {
         Step step = step_of(text);
         Meaning m = meaning_of(step.inputs);
-        Gave gave = device.run(step, m);
-        gave.after_reset += idle;
-        Fault fault = fault_of(step, m.refused, m.said, gave);
+        Gave gave;
+        Fault fault = run_step(pair, step, m, m.refused, m.said, idle, gave);
         if (fault.kind == Fault::NONE) continue;
         std::cout << "bad " << k << " " << FAULTS[fault.kind] << " " << fault.place << " " << run_text(gave.digits, CONTRACT.numbers);
         return;

@@ -24,11 +24,12 @@ def options_of(words):
     parser.add_argument("--seed", type=int, default=1)
     parser.add_argument("--jobs", type=int, default=1)
     parser.add_argument("--part", default="1/1")
+    parser.add_argument("--plant", nargs="+", default=[])
     parser.add_argument("--merge", nargs="+", type=pathlib.Path, default=[])
     given = parser.parse_args(words)
     out = given.out or pathlib.Path("target/sim") / pathlib.Path(given.contract).stem
     part = tuple(int(number) for number in given.part.split("/"))
-    return trial.Options(given.contract, given.bench, out, given.mutants, given.seed, part, given.jobs), given.merge
+    return trial.Options(given.contract, given.bench, out, given.mutants, given.seed, part, given.jobs, tuple(given.plant)), given.merge
 
 
 def write_part(court, found):
@@ -55,6 +56,7 @@ def conclude(court, found):
     if wrong:
         raise verdicts.Contradiction("the bench with the owed lines: " + "; ".join(wrong))
     report.write(court, found, lines)
+    (court.work / "classes.txt").write_text("".join(f"{v.number} {v.kind}: {v.lines} {v.what}\n" for v in found))
 
 
 def main(words):
@@ -64,10 +66,12 @@ def main(words):
         court = trial.Trial(options)
         found = read_parts(merged) if merged else court.run()
         if not merged:
-            path = write_part(court, found)
+            write_part(court, found)
         if options.part[1] == 1:
             conclude(court, found)
         court.close()
+        if court.wrong_plants(found):
+            raise verdicts.Contradiction("; ".join(court.wrong_plants(found)))
     except (contracts.Wrong, tools.Failed, verdicts.Contradiction) as fault:
         print(fault, file=sys.stderr)
         return 1

@@ -37,6 +37,7 @@ class Contract:
     start: str = ""
     busy: str = ""           # a wire or pin that is 1 while no start may come
     idle: str = ""           # or one that is 1 while one may
+    rest_pin: bool = False   # that wire is a pin, so others rely on it: it is compared with the original's
     first: int = 1
     fields: list = dataclasses.field(default_factory=list)
     fixed: dict = dataclasses.field(default_factory=dict)
@@ -61,7 +62,8 @@ class Contract:
 
     def output_pins(self):
         """The pins that the judge looks at."""
-        return [pin for pin in (self.valid, self.dtx, self.value, self.refused) if pin]
+        rest = self.rest_wire() if self.rest_pin else ""
+        return [pin for pin in (self.valid, self.dtx, self.value, self.refused, rest) if pin]
 
 
 def pairs(words):

@@ -62,7 +62,7 @@ const Contract CONTRACT = {{
     "{contract.circuit}", "{contract.call}", "{contract.out}",
     {{{rows}}},
     {{{fixed}}},
-    {total}, {contract.first}, {str(contract.numbers).lower()}, {str(bool(contract.refused)).lower()}}};
+    {total}, {contract.first}, {str(contract.numbers).lower()}, {str(bool(contract.refused)).lower()}, {str(contract.rest_pin).lower()}}};
 
 class Netlist : public Model {{
     VerilatedContext context;
@@ -87,7 +87,8 @@ class Netlist : public Model {{
         top.eval();
     }}
     Pins pins() override {{
-        return {{bool(top.{contract.valid}), {f"bool(top.{contract.dtx})" if contract.dtx else "false"}, {f"bool(top.{contract.refused})" if contract.refused else "false"}, {value_words(contract, width)}}};
+        return {{bool(top.{contract.valid}), {f"bool(top.{contract.dtx})" if contract.dtx else "false"}, {f"bool(top.{contract.refused})" if contract.refused else "false"},
+                {f"bool(top.{contract.rest_wire()})" if contract.rest_pin else "false"}, {value_words(contract, width)}}};
     }}
 }};
 
@@ -135,7 +136,8 @@ def differs(contract):
     if contract.dtx:
         value = f"((a_{contract.dtx} != b_{contract.dtx}) | !a_{contract.dtx} & {value})"
     refused = f" | (a_{contract.refused} != b_{contract.refused})" if contract.refused else ""
-    return f"(a_{contract.valid} != b_{contract.valid}){refused} | a_{contract.valid} & {value}"
+    rest = f" | (a_{contract.rest_wire()} != b_{contract.rest_wire()})" if contract.rest_pin else ""
+    return f"(a_{contract.valid} != b_{contract.valid}){refused}{rest} | a_{contract.valid} & {value}"
 
 
 def registers(contract, module):
@@ -148,7 +150,7 @@ def registers(contract, module):
 def inner(contract, module):
     """What of a circuit's inside the miter looks at: its registers, and the wire that says when a start may come."""
     found = registers(contract, module)
-    if contract.rest_wire() not in contract.output_pins():
+    if not contract.rest_pin:
         found.setdefault(contract.rest_wire(), 1)
     return found
 

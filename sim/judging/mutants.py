@@ -14,24 +14,28 @@ class Mutant:
     lines: str = ""          # of the source
     what: str = ""
     prepared: str = ""       # a planted one: its own file, prepared as the original is
+    plant: str = ""          # and its name
 
 
-def prepare(contract, work):
-    """The circuit as yosys sees it, in a file that keeps the names which the list of mutants uses; and its cells and ports."""
-    # flatten: mutate adds its input to one module only. -norom: else large tables become memories, which mutate leaves alone.
-    # chtype, setundef: what has no value in yosys would have one in a simulator, and not the same one: an index out of range gives 0.
-    tools.yosys(f"""
-read_verilog {contract.verilog()}
-hierarchy -check -top {contract.circuit}
+# flatten: mutate adds its input to one module only. -norom: else large tables become memories, which mutate leaves alone.
+# chtype, setundef: what has no value in yosys would have one in a simulator, and not the same one: an index out of range gives 0.
+PREPARE = """
+read_verilog {source}
+hierarchy -check -top {circuit}
 flatten
 proc -norom
 opt -full
 chtype -set $shift t:$shiftx
 setundef -zero
-write_rtlil {work}/prepared.il
-write_json {work}/prepared.json
-""", work, "prepare")
-    return json.loads((work / "prepared.json").read_text())["modules"][contract.circuit]
+write_rtlil {work}/{name}.il
+write_json {work}/{name}.json
+"""
+
+
+def prepare(contract, source, work, name):
+    """The circuit as yosys sees it, in a file that keeps the names which the list of mutants uses; and its cells and ports."""
+    tools.yosys(PREPARE.format(source=source, circuit=contract.circuit, work=work, name=name), work, name)
+    return json.loads((work / f"{name}.json").read_text())["modules"][contract.circuit]
 
 
 def options(command):

@@ -1,4 +1,5 @@
 """Netlists that hold many mutants each, and the driver that is compiled around one."""
+import hashlib
 import os
 import pathlib
 
@@ -10,7 +11,9 @@ MOST = 200    # mutants in a netlist: with many more a cycle costs more than ano
 
 def batches(found):
     """The mutants of each netlist."""
-    return [found[k:k + MOST] for k in range(0, len(found), MOST)]
+    made, planted = [m for m in found if not m.plant], [m for m in found if m.plant]
+    cut = [made[k:k + MOST] for k in range(0, len(made), MOST)] or [[]]
+    return cut[:-1] + [cut[-1] + planted]
 
 
 def select_width(batch):
@@ -41,6 +44,25 @@ check -assert
 splitnets
 write_verilog -noattr {work}/mutants.v
 """, work, "netlist")
+    for mutant in batch:
+        if mutant.plant:
+            write_planted(contract, mutant, work)
+
+
+def planted_module(mutant):
+    """The name of a planted mutant's module."""
+    return f"plant_{mutant.plant}"
+
+
+def write_planted(contract, mutant, work):
+    """A planted mutant as a module of its own beside the netlist."""
+    tools.yosys(f"""
+read_rtlil {mutant.prepared}
+rename {contract.circuit} {planted_module(mutant)}
+techmap t:$pmux
+opt_clean
+write_verilog -noattr {work}/{planted_module(mutant)}.v
+""", work, planted_module(mutant))
 
 
 def driver_objects(work):
@@ -68,13 +90,27 @@ def archive():
     return pathlib.Path(os.environ.get("SLT_LIB", tools.HERE.parent / "target" / "staticlib" / "libslt.a")).resolve()
 
 
-def compile_driver(contract, module, batch, planted, work, objects):
+def compile_driver(contract, module, batch, work, objects):
     """The driver of one netlist."""
+    planted = [(mutant.number, planted_module(mutant)) for mutant in batch if mutant.plant]
     (work / "judged.v").write_text(generate.judged(contract, module, select_width(batch), planted))
     (work / "model.cpp").write_text(generate.model(contract, module))
     sources = [work / "judged.v", work / "mutants.v", *(work / f"{name}.v" for _, name in planted)]
+    program, stamp = work / "obj" / "driver", work / "compiled-from"
+    inputs = digest([*sources, work / "model.cpp", *objects, archive()])
+    if program.exists() and stamp.exists() and stamp.read_text() == inputs:
+        return program
     flags = f"-I{tools.HERE}/driver -I{tools.HERE} -I{header(tools.HERE)} -O1"
     tools.run(["verilator", "--cc", "--exe", "--build", "-j", "1", "-O3", "-Wno-lint", "-Wno-fatal", "--x-initial", "unique", "--prefix", "Vjudged",
-               "--top", "judged", "--Mdir", work / "obj", "-o", "driver", "-CFLAGS", flags, "-MAKEFLAGS", "OPT_FAST=-O1", *sources,
+               "--top", "judged", "--Mdir", work / "obj", "-o", "driver", "-CFLAGS", flags, "-MAKEFLAGS", f"OPT_FAST=-O1 CXX={os.environ.get('CXX', 'g++')} LINK={os.environ.get('CXX', 'g++')}", *sources,
                (work / "model.cpp").resolve(), *(path.resolve() for path in objects), archive()], work / "verilator.log")
-    return work / "obj" / "driver"
+    stamp.write_text(inputs)
+    return program
+
+
+def digest(paths):
+    """What tells whether a driver is compiled from these files."""
+    total = hashlib.sha256()
+    for path in paths:
+        total.update(path.read_bytes())
+    return total.hexdigest()

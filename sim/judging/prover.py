@@ -43,6 +43,7 @@ class Prover:
 read_rtlil {self.prepared}
 rename {self.contract.circuit} original
 techmap t:$pmux
+async2sync
 expose {self.exposed("original")}
 techmap
 opt
@@ -62,6 +63,7 @@ read_rtlil {mutant.prepared or self.prepared}
 {mutant.command}
 rename {self.contract.circuit} mutant
 techmap t:$pmux
+async2sync
 expose {self.exposed("mutant")}
 read_verilog {self.work}/{name}.v
 hierarchy -check -top miter

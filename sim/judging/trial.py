@@ -8,6 +8,7 @@ import driver as drivers
 import generate
 import mutants
 import netlist
+import plants
 import prover
 import tools
 import verdict as verdicts
@@ -26,6 +27,7 @@ class Options:
     seed: int = 1
     part: tuple = (1, 1)
     jobs: int = 1
+    plants: tuple = ()
 
 
 class Trial:
@@ -36,8 +38,11 @@ class Trial:
         self.contract = contracts.read(options.contract)
         self.work = options.out.resolve()
         self.work.mkdir(parents=True, exist_ok=True)
-        self.module = mutants.prepare(self.contract, self.work)
+        self.module = mutants.prepare(self.contract, self.contract.verilog(), self.work, "prepared")
+        self.contract.rest_pin = self.contract.rest_wire() in self.module["ports"]
         self.mutants = mutants.listed(self.contract, self.module, self.work, options.count, options.seed)
+        self.plants = [plants.read(path) for path in options.plants]
+        self.mutants += [plants.planted(self.contract, plant, self.work, len(self.mutants) + k) for k, plant in enumerate(self.plants, 1)]
         self.batches = netlist.batches(self.mutants)
         self.courts = {}
         self.stimuli = self.every = self.longest = None
@@ -60,7 +65,7 @@ class Trial:
         batch = self.batches[index]
         netlist.write_netlist(self.contract, batch, work, self.work)
         objects = netlist.driver_objects(self.work.parent / "driver")
-        running = drivers.Driver(netlist.compile_driver(self.contract, self.module, batch, [], work, objects))
+        running = drivers.Driver(netlist.compile_driver(self.contract, self.module, batch, work, objects))
         running.bench(self.options.bench)
         self.stimuli, self.every, self.longest = running.stimuli()
         seen = running.killed_by(0)
@@ -113,6 +118,13 @@ class Trial:
 
         with concurrent.futures.ThreadPoolExecutor(jobs) as pool:
             return {number: answer for answers in pool.map(every_nth, range(jobs)) for number, answer in answers}
+
+    def wrong_plants(self, found):
+        """Planted mutants that did not get the class that they must get, in words."""
+        first = self.mutants[-1].number - len(self.plants) + 1
+        got = {verdict.number: verdict.kind for verdict in found}
+        return [f"the planted mutant {plant.name} is {got[number]}, not {' or '.join(plant.classes)}"
+                for number, plant in enumerate(self.plants, first) if number in got and got[number] not in plant.classes]
 
     def close(self):
         """Ends the drivers."""

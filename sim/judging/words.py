@@ -39,6 +39,8 @@ def fault(verdict, numbers):
     what = "value" if numbers else "digit"
     if verdict.fault == "reset":
         return "something comes behind a reset"
+    if verdict.fault == "start":
+        return f"the pin that says when a start may come differs from the original's {verdict.place} cycles behind the start"
     if verdict.fault == "not-refused":
         return f"the circuit does not refuse it, and gives {len(gave)} {what}s"
     if verdict.fault == "refused":
