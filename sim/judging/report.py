@@ -41,7 +41,7 @@ class Report:
         none = [v for v in self.found if v.kind == "no difference"]
         return Figures(collections.Counter(v.kind for v in self.found), collections.Counter(v.reason for v in none),
                        collections.Counter(v.pins for v in none),
-                       collections.Counter(v.prover for v in self.found if v.kind in ("killed", "missed") and v.prover))
+                       collections.Counter(v.prover for v in self.found if v.kind in ("killed", "missed") and v.prover and not v.power))
 
     def owed_of(self):
         """The line that is owed for each missed mutant."""
