@@ -1,4 +1,4 @@
-// What the driver knows of a circuit: the contract file as a table, written by judging/generate.py. All inputs of a circuit but
+// What the driver knows of a circuit: the contract file as a table, written by judging/model.py. All inputs of a circuit but
 // clock, reset and start stand side by side in one vector of bits, in the order of the contract.
 #pragma once
 

@@ -12,7 +12,7 @@ struct Pins {
     int32_t value;              // the bit, or the number
 };
 
-// What model.cpp, which judging/generate.py writes, gives for the netlist: one power-up of it.
+// What model.cpp, which judging/model.py writes, gives for the netlist: one power-up of it.
 class Model {
   public:
     virtual ~Model() = default;

@@ -6,6 +6,7 @@
 //     kill MUTANT            runs the bench                    -> survived | killed LINE FAULT
 //     line MUTANT LINE       runs one line of the bench, from 1
 //     search MUTANT          runs the list                     -> none COUNT PINS | fault COUNT POWER STEP... (the last one shows it)
+//     history COUNT          -> the steps of the list up to that one, from the power-up before it on
 //     plain MUTANT           runs each of the list by itself, as a bench drives it: zeros on pins that mean nothing, inputs held
 //                                                              -> none COUNT | fault COUNT STEP
 //     try MUTANT POWER STEP...                                 -> good | bad INDEX FAULT PLACE GAVE
@@ -122,10 +123,15 @@ void say_stimuli() {
     std::cout << "stimuli " << stimuli.list.size() << (stimuli.every ? " every " : " sample ") << longest;
 }
 
+size_t power_of(size_t at) { return at / stimuli.power_up_every; }
+
+void say_steps(size_t from, size_t to) {
+    for (size_t k = from; k <= to; k++) std::cout << " " << step_text(stimuli.list[k].step);
+}
+
 void say_found(size_t at) {
-    size_t power = at / stimuli.power_up_every, first = power * stimuli.power_up_every;
-    std::cout << "fault " << at + 1 << " " << power;
-    for (size_t k = std::max(first, at < 3 ? 0 : at - 3); k <= at; k++) std::cout << " " << step_text(stimuli.list[k].step);
+    std::cout << "fault " << at + 1 << " " << power_of(at);
+    say_steps(std::max(power_of(at) * stimuli.power_up_every, at < 3 ? 0 : at - 3), at);
 }
 
 void search(unsigned mutant) {
@@ -201,6 +207,7 @@ void answer(const std::string &command, std::istringstream &words) {
     else if (command == "kill" && words >> mutant) say_lines(mutant, 0, bench.size());
     else if (command == "line" && words >> mutant >> line) say_lines(mutant, line - 1, line);
     else if (command == "search" && words >> mutant) search(mutant);
+    else if (command == "history" && words >> line) say_steps(power_of(line - 1) * stimuli.power_up_every, line - 1);
     else if (command == "plain" && words >> mutant) search_plain(mutant);
     else if (command == "try" && words >> mutant >> power) try_steps(mutant, power, words);
     else if (command == "show" && words >> text) show(step_of(text));

@@ -9,20 +9,21 @@
 
 namespace {
 
+[[noreturn]] void wrong_contract(const std::string &why) {
+    std::fprintf(stderr, "the contract of %s: %s\n", CONTRACT.circuit, why.c_str());
+    std::exit(2);
+}
+
 const sim_call &call() {
     static const sim_call *found = sim_call_named(CONTRACT.call);
-    if (!found) {
-        std::fprintf(stderr, "the contract names a call that there is not: %s\n", CONTRACT.call);
-        std::exit(2);
-    }
+    if (!found) wrong_contract(std::string("no call is named ") + CONTRACT.call);
     return *found;
 }
 
 unsigned index_of(const char *const *names, const char *name) {
     for (unsigned k = 0; names[k]; k++)
         if (std::strcmp(names[k], name) == 0) return k;
-    std::fprintf(stderr, "%s has nothing that is called %s\n", CONTRACT.call, name);
-    std::exit(2);
+    wrong_contract(std::string(CONTRACT.call) + " has nothing that is named " + name);
 }
 
 // The call's numbers: those on the pins, and those that the contract fixes.
@@ -115,7 +116,10 @@ void ask(Meaning &m, const Lengths &length) {
 size_t length_of(const std::vector<size_t> &numbers, size_t field) {
     if (!in_circuit(numbers)) return 0;
     const Lengths &found = lengths(of_call(numbers));
-    return found.refusal ? 0 : found.of_run[index_of(call().runs, CONTRACT.fields[field].name)];
+    if (found.refusal) return 0;
+    size_t length = found.of_run[index_of(call().runs, CONTRACT.fields[field].name)];
+    if (length > CONTRACT.fields[field].room) wrong_contract(std::string("the pin is too narrow for ") + CONTRACT.fields[field].name);
+    return length;
 }
 
 Meaning meaning_of(const Bits &inputs) {
@@ -137,6 +141,7 @@ Meaning meaning_of(const Bits &inputs) {
     } else {
         ask(m, found);
     }
+    if (m.refused && !CONTRACT.has_refused) wrong_contract("it has no pin for a refusal, and " + answer_words(m));
     return m;
 }
 

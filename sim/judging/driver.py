@@ -83,6 +83,10 @@ class Driver:
             return int(count), rest[0], 0, []
         return int(count), None, int(rest[0]), [step_of(text) for text in rest[1:]]
 
+    def history(self, count):
+        """The judge's stimuli up to the one of this number, from the power-up before it on."""
+        return [step_of(text) for text in self.ask(f"history {count}").split()]
+
     def search_plain(self, mutant):
         """The first of the judge's stimuli that shows a mutant by itself and as a bench drives it, or nothing."""
         word, _, *step = self.ask(f"plain {mutant}").split()

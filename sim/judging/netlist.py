@@ -4,6 +4,7 @@ import os
 import pathlib
 
 import generate
+import model
 import tools
 
 MOST = 200    # mutants in a netlist: with many more a cycle costs more than another compile saves
@@ -94,7 +95,7 @@ def compile_driver(contract, module, batch, work, objects):
     """The driver of one netlist."""
     planted = [(mutant.number, planted_module(mutant)) for mutant in batch if mutant.plant]
     (work / "judged.v").write_text(generate.judged(contract, module, select_width(batch), planted))
-    (work / "model.cpp").write_text(generate.model(contract, module))
+    (work / "model.cpp").write_text(model.model(contract, module))
     sources = [work / "judged.v", work / "mutants.v", *(work / f"{name}.v" for _, name in planted)]
     program, stamp = work / "obj" / "driver", work / "compiled-from"
     inputs = digest([*sources, work / "model.cpp", *objects, archive()])

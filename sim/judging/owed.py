@@ -40,7 +40,7 @@ def lines_of(number, verdict):
     """The lines of a case in the bench's own form, each with a name."""
     lines = []
     for k, text in enumerate(verdict.texts):
-        name = f"owed{number}" if k + 1 == len(verdict.texts) else f"owed{number}{'abcdefgh'[k]}"
+        name = f"owed{number}" if k + 1 == len(verdict.texts) else f"owed{number}-{k + 1}"
         after = f" after={lines[-1].split(':')[0]}" if lines else ""
         power = f" power={verdict.power}" if verdict.power else ""
         lines.append(f"{name}: {text}{after}{power}")

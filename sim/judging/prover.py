@@ -3,6 +3,7 @@ import dataclasses
 import re
 
 import generate
+import miter
 import tools
 
 # Limits by work and not by time, so that a verdict does not depend on how busy the machine is: timeframes, and conflicts in one call of
@@ -33,7 +34,7 @@ class Prover:
         self.contract, self.module, self.work, self.prepared = contract, module, work, circuit_work / "prepared.il"
         work.mkdir(parents=True, exist_ok=True)
         for name, one in (("history", False), ("stream", True)):
-            (work / f"{name}.v").write_text(generate.miter(contract, module, one))
+            (work / f"{name}.v").write_text(miter.miter(contract, module, one))
         self.prepare_original()
 
     def prepare_original(self):
@@ -53,7 +54,7 @@ write_rtlil {self.work}/original.il
 
     def exposed(self, module):
         """The wires of a module that the miter looks at."""
-        return " ".join(f"{module}/w:{wire}" for wire in generate.inner(self.contract, self.module))
+        return " ".join(f"{module}/w:{wire}" for wire in miter.inner(self.contract, self.module))
 
     def aiger(self, mutant, name):
         """The miter of a mutant as and-gates and registers that begin with 0."""

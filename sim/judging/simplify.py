@@ -64,6 +64,22 @@ def first_shown(driver, mutant, power, steps, bits):
     return None
 
 
+def shortest_end(driver, mutant, power, steps):
+    """The end of a long history that still shows a mutant: of doubling length, then without the steps that it does not need."""
+    count = 1
+    while count < len(steps) and not shown(driver, mutant, Case(power, steps[-count:])):
+        count *= 2
+    case = shown(driver, mutant, Case(power, steps[-count:]))
+    return fewer_steps(driver, mutant, case) if case else None
+
+
+def fewer_steps(driver, mutant, case):
+    """The case without the earlier steps that it does not need."""
+    for index in reversed(range(len(case.steps) - 1)):
+        case = shown(driver, mutant, Case(case.power, case.steps[:index] + case.steps[index + 1:])) or case
+    return case
+
+
 def fewer_bits(value, mask):
     """Numbers with some of the masked bits cleared: all of them, then parts of half the size each time, then one by one."""
     places = [k for k in range(value.bit_length()) if value >> k & 1 and mask >> k & 1]
@@ -102,6 +118,7 @@ def simpler(driver, step, fields, bits):
 
 def simplest(driver, mutant, case, fields, bits):
     """The case made simpler for as long as it still shows the mutant. The step that is wrong stays the last."""
+    case = fewer_steps(driver, mutant, case)
     again = True
     while again:
         again = False

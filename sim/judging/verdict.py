@@ -66,8 +66,13 @@ class Court:
         """A stimulus of the judge's list shows the mutant. The proof speaks of registers that power up with 0."""
         if answer.word == "equal" and power == 0:
             raise Contradiction(f"mutant {verdict.number} is proved equal, and a stimulus shows a difference")
-        if not self.is_missed(verdict, power, steps):
-            raise Contradiction(f"mutant {verdict.number}: a stimulus shows a difference in the list and not by itself")
+        if self.is_missed(verdict, power, steps):
+            return
+        case = simplify.shortest_end(self.driver, verdict.number, power, self.driver.history(verdict.tried))
+        if not case:
+            raise Contradiction(f"mutant {verdict.number}: a stimulus shows a difference in the list and not again")
+        case = self.simplest(verdict.number, case)
+        self.tell(verdict, case.power, case.steps)
 
     def last_resort(self, verdict, mutant):
         """Neither the first proof nor simulation decides."""
