@@ -123,6 +123,7 @@ sim: lib | tools-sim
 	$(SIM) --mutants $(MUTANTS) --seed $(SEED)
 
 sim-gate: lib
+	python3 -B sim/test_judge.py --quiet
 	SIM_QUIET=1 $(SIM) --gate
 
 # The archive, its header and its pkg-config file, what a SystemVerilog bench needs, the program and its man page. PREFIX is where they will be used, and
