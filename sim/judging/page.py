@@ -52,16 +52,20 @@ def cell(item, other, wide):
 
 
 def digits(said, gave, numbers):
-    """Two streams drawn one above the other, in rows."""
+    """Two streams drawn one above the other; of a long one only the rows in which they differ."""
     length = max(len(said), len(gave))
     said, gave = said + [""] * (length - len(said)), gave + [""] * (length - len(gave))
-    row, lines = (16 if numbers else ROW), []
+    row, lines, alike = (16 if numbers else ROW), [], 0
     for at in range(0, length, row):
         pairs = list(zip(said[at:at + row], gave[at:at + row]))
+        if length > row and all(s == g for s, g in pairs):
+            alike += len(pairs)
+            continue
         lines.append(f'<span class="place">from {at}</span><span></span>' if length > row else "")
         lines.append('<span>standard</span><span class="row">' + "".join(cell(s, g, numbers) for s, g in pairs) + "</span>")
         lines.append('<span>circuit</span><span class="row">' + "".join(cell(g, s, numbers) for s, g in pairs) + "</span>")
-    return f'<div class="digits">{"".join(lines)}</div>' if length else ""
+    rest = f"<p class=quiet>the other {alike} are alike</p>" if alike else ""
+    return f'<div class="digits">{"".join(lines)}</div>{rest}' if length else ""
 
 
 def missed_article(report, verdict):

@@ -88,19 +88,18 @@ write_aiger -symbols {self.work}/{name}.aig
             return "differs", cex
         return ("proved" if "Property proved" in said or "Networks are equivalent" in said else "open"), cex
 
-    def prove(self, mutant):
-        """For every input in every history, with little work: first with the registers, then without."""
+    def prove(self, mutant, limits=QUICK):
+        """For every input in every history: first with the registers, then without."""
         self.aiger(mutant, "history")
-        if self.abc("history", 1, f"scorr; pdr {QUICK}")[0] == "proved":
+        if self.abc("history", 1, f"scorr; pdr {limits}")[0] == "proved":
             return Answer("equal")
-        return self.history(QUICK)
+        word, cex = self.abc("history", 0, f"scorr; pdr {limits}")
+        if word == "differs":
+            return self.counterexample(cex)
+        return Answer("equal" if word == "proved" else "open")
 
-    def prove_deep(self, mutant, longest):
-        """What prove left open, and simulation too: with more work; then for every input of one stream behind a reset."""
-        self.aiger(mutant, "history")
-        answer = self.history(DEEP)
-        if answer.word != "open":
-            return answer
+    def prove_stream(self, mutant, longest):
+        """For every input of one stream behind a reset, bounded by the longest stream that there is."""
         self.aiger(mutant, "stream")
         frames = longest + self.contract.first + 8
         word, cex = self.abc("stream", 0, f"scorr; bmc3 -F {frames} -C 20000 -T 300")
@@ -108,13 +107,6 @@ write_aiger -symbols {self.work}/{name}.aig
             return self.counterexample(cex)
         said = (self.work / "stream.abc.log").read_text()
         return Answer("stream" if word == "proved" or f"No output asserted in {frames} frames" in said else "open")
-
-    def history(self, limits):
-        """Of the miter without registers, as it was made last."""
-        word, cex = self.abc("history", 0, f"scorr; pdr {limits}")
-        if word == "differs":
-            return self.counterexample(cex)
-        return Answer("equal" if word == "proved" else "open")
 
     def counterexample(self, cex):
         """Its cycles."""

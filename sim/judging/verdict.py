@@ -1,8 +1,12 @@
 """Gives a mutant its class: killed, missed, no difference or open."""
 import dataclasses
 
+import prover
 import replay
 import simplify
+
+# What the prover's words mean for a verdict.
+REASONS = {"equal": "history", "inputs": "inputs", "stream": "stream"}
 
 
 @dataclasses.dataclass
@@ -35,8 +39,9 @@ class Contradiction(Exception):
 class Court:
     """What it takes to judge the mutants of one netlist."""
 
-    def __init__(self, driver, prover, first, fields, bits, longest, every):
-        self.driver, self.prover, self.first, self.fields, self.bits, self.longest, self.every = driver, prover, first, fields, bits, longest, every
+    def __init__(self, driver, asked, first, fields, bits, longest, every):
+        self.driver, self.prover, self.first, self.fields = driver, asked, first, fields
+        self.bits, self.longest, self.every = bits, longest, every
 
     def first_look(self, mutant):
         """Killed by the bench, or a survivor."""
@@ -57,8 +62,8 @@ class Court:
             self.found(verdict, answer, power, steps)
         elif answer.word == "equal":
             verdict.kind, verdict.reason = "no difference", "history"
-        elif self.every:
-            verdict.kind, verdict.reason = "no difference", "inputs"
+        elif answer.word == "differs":
+            verdict.kind = "open"
         else:
             self.last_resort(verdict, mutant)
 
@@ -75,15 +80,15 @@ class Court:
         self.tell(verdict, case.power, case.steps)
 
     def last_resort(self, verdict, mutant):
-        """Neither the first proof nor simulation decides."""
-        answer = self.prover.prove_deep(mutant, self.longest)
+        """Neither the first proof nor simulation decides: a proof with more work, then all inputs where they were run through, else one
+        stream. A counterexample that shows no wrong digit ends it: such a mutant is open."""
+        answer = self.prover.prove(mutant, prover.DEEP)
+        if answer.word == "open":
+            answer = prover.Answer("inputs") if self.every else self.prover.prove_stream(mutant, self.longest)
         verdict.prover = answer.word
         if answer.word == "differs" and self.is_missed(verdict, 0, replay.steps_of(self.driver, self.first, answer.cycles)):
             return
-        if answer.word in ("equal", "stream"):
-            verdict.kind, verdict.reason = "no difference", {"equal": "history", "stream": "stream"}[answer.word]
-        else:
-            verdict.kind = "open"
+        verdict.kind, verdict.reason = ("no difference", REASONS[answer.word]) if answer.word in REASONS else ("open", "")
 
     def is_missed(self, verdict, power, steps):
         """Do these steps show the mutant? Then the simplest case goes into the verdict."""

@@ -72,4 +72,5 @@ def summary(verdict, owed_of, numbers):
         return f"{fault(verdict, numbers)} [{debt(verdict, owed_of)}]"
     if verdict.kind == "no difference":
         return no_difference(verdict)
-    return f"neither proved nor seen; {PINS[verdict.pins].format(verdict.tried)}"
+    why = "the prover sees a difference that no digit shows" if verdict.prover == "differs" else "neither proved nor seen"
+    return f"{why}; {PINS[verdict.pins].format(verdict.tried)}"
