@@ -8,7 +8,8 @@ def differs(contract):
     if contract.dtx:
         value = f"((a_{contract.dtx} != b_{contract.dtx}) | !a_{contract.dtx} & {value})"
     refused = f" | (a_{contract.refused} != b_{contract.refused})" if contract.refused else ""
-    rest = f" | (a_{contract.rest_wire()} != b_{contract.rest_wire()})" if contract.rest_pin else ""
+    # no start comes in a reset, so the pin that says when one may means nothing there
+    rest = f" | !stop & (a_{contract.rest_wire()} != b_{contract.rest_wire()})" if contract.rest_pin else ""
     return f"(a_{contract.valid} != b_{contract.valid}){refused}{rest} | a_{contract.valid} & {value}"
 
 
