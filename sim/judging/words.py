@@ -42,7 +42,7 @@ def fault(verdict, numbers):
     if verdict.fault == "start":
         return f"the pin that says when a start may come differs from the original's {verdict.place} cycles behind the start"
     if verdict.fault == "not-refused":
-        return f"the circuit does not refuse it, and gives {len(gave)} {what}s"
+        return f"the circuit does not refuse it, and streams {what}s" if gave else "the circuit does not refuse it"
     if verdict.fault == "refused":
         return "the circuit refuses it" + (f", and gives {len(gave)} {what}s all the same" if gave else "")
     if verdict.fault == "length":
