@@ -73,15 +73,19 @@ Fault fault_of(const Step &step, bool refused, const Run &expected, const Gave &
     return {};
 }
 
+Pair::Pair(unsigned number, unsigned power) : mutant(number, power) {
+    if (CONTRACT.rest_pin) original = std::make_unique<Device>(0, power);
+}
+
 unsigned Pair::reset() {
-    if (CONTRACT.rest_pin) original.reset();
+    if (original) original->reset();
     return mutant.reset().after_reset;
 }
 
 Gave Pair::run(const Step &step, const Meaning &meaning, Fault &start) {
     Gave gave = mutant.run(step, meaning);
-    if (!CONTRACT.rest_pin) return gave;
-    Gave right = original.run(step, meaning);
+    if (!original) return gave;
+    Gave right = original->run(step, meaning);
     for (size_t k = 0; k < gave.pins.size() && start.kind == Fault::NONE; k++)
         if (gave.pins[k].rest != right.pins[k].rest) start = {Fault::START, k};
     return gave;

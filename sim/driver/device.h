@@ -49,12 +49,13 @@ struct Fault {
 };
 Fault fault_of(const Step &step, bool refused, const Run &expected, const Gave &gave);
 
-// A mutant and the original beside it. What pins say of when a start may come is not the standard's: there the original's word counts.
+// A mutant, and the original beside it where a pin says when a start may come: that is not the standard's, so the original's word counts.
 class Pair {
-    Device mutant, original;
+    Device mutant;
+    std::unique_ptr<Device> original;
 
   public:
-    Pair(unsigned number, unsigned power) : mutant(number, power), original(0, power) {}
+    Pair(unsigned number, unsigned power);
     unsigned reset();            // digits and refusals behind it
     Gave run(const Step &step, const Meaning &meaning, Fault &start);
 };
