@@ -38,6 +38,7 @@ const CHANNELS: &[Channel] = &[
     ("aich_available", compare::aich_available::all),
     ("combiner", compare::combiner::all),
     ("sample", compare::sample::all),
+    ("bank", compare::bank::all),
 ];
 
 fn main() {

@@ -77,3 +77,19 @@ bytesAfterRefused = 25
 -- 26: a nonzero indicator of a signature that is not available
 abbrev pub signatureRefused : ℕ
 signatureRefused = 26
+
+-- 28: buffer of a bank under 8 or over 65536 bytes, or bytes that are no bank
+abbrev pub bankRefused : ℕ
+bankRefused = 28
+
+-- 29: no slot with the number in the bank
+abbrev pub absentRefused : ℕ
+absentRefused = 29
+
+-- 30: a slot with the number is already in the bank
+abbrev pub presentRefused : ℕ
+presentRefused = 30
+
+-- 31: no room in the bank
+abbrev pub roomRefused : ℕ
+roomRefused = 31

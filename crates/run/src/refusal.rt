@@ -38,3 +38,11 @@ pub const ENDS_EARLY: usize = 24;
 pub const BYTES_AFTER: usize = 25;
 // 26: a nonzero indicator of a signature that is not available.
 pub const SIGNATURE: usize = 26;
+// 28: buffer of a bank under 8 or over 65536 bytes, or bytes that are no bank.
+pub const BANK: usize = 28;
+// 29: no slot with the number in the bank.
+pub const ABSENT: usize = 29;
+// 30: a slot with the number is already in the bank.
+pub const PRESENT: usize = 30;
+// 31: no room in the bank.
+pub const ROOM: usize = 31;

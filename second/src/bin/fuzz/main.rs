@@ -10,6 +10,7 @@
 #![deny(warnings)]
 #![deny(unsafe_code)]
 
+mod bank;
 mod calls;
 mod case;
 mod dpch;
@@ -27,7 +28,7 @@ use std::process::ExitCode;
 type Call = (&'static [u16], fn(&mut Draw) -> Case);
 
 /// In the order of `include/slt.h`, which is that of the table in `fuzz/calls.c`.
-const CALLS: [Call; 29] = [
+const CALLS: [Call; 35] = [
     (&[0, 8, 11], calls::pich_q),
     (&[0, 3, 4, 8], calls::pich_map),
     (&[0, 3, 4, 8, 9], calls::pich_read),
@@ -57,6 +58,12 @@ const CALLS: [Call; 29] = [
     (&[0, 11], calls::sample_off),
     (&[0, 11], calls::sample_shared),
     (&[0, 11], calls::sample_each),
+    (&[0, 28], bank::empty),
+    (&[0, 3, 4, 11, 28, 30, 31], bank::store),
+    (&[0, 3, 11, 28, 29], bank::fetch),
+    (&[0, 11, 28, 29], bank::drop),
+    (&[0, 11, 28, 29], bank::length),
+    (&[0, 28], bank::room),
 ];
 
 /// As many of each call.
@@ -84,7 +91,7 @@ fn main() -> ExitCode {
 fn write_all(seed: u64) -> io::Result<()> {
     let mut out = BufWriter::with_capacity(1 << 16, io::stdout().lock());
     write_head(&mut out, [seed, 0, CASES])?;
-    let mut seen: [BTreeSet<u16>; CALLS.len()] = Default::default();
+    let mut seen: [BTreeSet<u16>; CALLS.len()] = std::array::from_fn(|_| BTreeSet::new());
     for case in 0..CASES {
         seen[call_of(case)].insert(write_case(&mut out, seed, case)?);
     }
