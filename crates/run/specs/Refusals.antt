@@ -34,7 +34,7 @@ pilotRefused = 7
 abbrev pub npRefused : ℕ
 npRefused = 8
 
--- 9: PICH or P-CCPCH frame, or second stream of a DPCH slot, that no fields give
+-- 9: PICH or P-CCPCH frame, second stream of a DPCH slot or HS-PDSCH subframe, or missing slot of a compressed frame, that no fields give
 abbrev pub frameRefused : ℕ
 frameRefused = 9
 
@@ -78,6 +78,10 @@ bytesAfterRefused = 25
 abbrev pub signatureRefused : ℕ
 signatureRefused = 26
 
+-- 27: a gap that leaves too few or too many slots of a compressed frame, or runs past slot 14
+abbrev pub gapRefused : ℕ
+gapRefused = 27
+
 -- 28: buffer of a bank under 8 or over 65536 bytes, or bytes that are no bank
 abbrev pub bankRefused : ℕ
 bankRefused = 28
@@ -93,3 +97,7 @@ presentRefused = 30
 -- 31: no room in the bank
 abbrev pub roomRefused : ℕ
 roomRefused = 31
+
+-- 32: a count of frames that stands at 4294967295
+abbrev pub countRefused : ℕ
+countRefused = 32

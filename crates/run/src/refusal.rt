@@ -16,7 +16,7 @@ pub const TFCI: usize = 6;
 pub const PILOT: usize = 7;
 // 8: Np not 18, 36, 72, 144.
 pub const NP: usize = 8;
-// 9: PICH or P-CCPCH frame, or second stream of a DPCH slot, that no fields give.
+// 9: PICH or P-CCPCH frame, second stream of a DPCH slot or HS-PDSCH subframe, or missing slot of a compressed frame, that no fields give.
 pub const FRAME: usize = 9;
 // 10: AICH values that no indicators give.
 pub const VALUES: usize = 10;
@@ -38,6 +38,8 @@ pub const ENDS_EARLY: usize = 24;
 pub const BYTES_AFTER: usize = 25;
 // 26: a nonzero indicator of a signature that is not available.
 pub const SIGNATURE: usize = 26;
+// 27: a gap that leaves too few or too many slots of a compressed frame, or runs past slot 14.
+pub const GAP: usize = 27;
 // 28: buffer of a bank under 8 or over 65536 bytes, or bytes that are no bank.
 pub const BANK: usize = 28;
 // 29: no slot with the number in the bank.
@@ -46,3 +48,5 @@ pub const ABSENT: usize = 29;
 pub const PRESENT: usize = 30;
 // 31: no room in the bank.
 pub const ROOM: usize = 31;
+// 32: a count of frames that stands at 4294967295.
+pub const COUNT: usize = 32;
