@@ -96,13 +96,14 @@ cases: judges
 	$(SECOND)/cases --questions | cmp - crates/cases/stdin
 	$(SECOND)/cases | cmp - crates/cases/stdout
 
-# A C host under the sanitizers; what it prints is compared with what it should. Then the program that docs/WAKE.md shows.
+# A C host under the sanitizers; what it prints is compared with what it should. Then the programs that docs/WAKE.md and docs/BANK.md show.
 host: lib
 	mkdir -p target/host
 	$(CC) $(CFLAGS) $(SANITIZE) -Iinclude examples/host.c $(LIB) -o target/host/host
 	$(EMULATOR) target/host/host > target/host/stdout
 	cmp target/host/stdout examples/host.stdout
 	CC="$(CC) $(CFLAGS) $(SANITIZE) -Iinclude" EMULATOR="$(EMULATOR)" sh examples/try_wake.sh $(LIB) target/host
+	CC="$(CC) $(CFLAGS) $(SANITIZE) -Iinclude" EMULATOR="$(EMULATOR)" sh examples/try_page.sh BANK 0 $(LIB) target/host
 
 # Cases drawn at random: the C calls under the sanitizers, in memory where a stray access shows, and the program on files.
 # How many there are is fixed, and SEED decides which: `make fuzz SEED=2` tries others, with CASE=N only that C call.

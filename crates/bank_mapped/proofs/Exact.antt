@@ -15,8 +15,10 @@ use Rattle.dpch.specs.Formats.{formats, formatOf}
 use Rattle.dpch.proofs.Exact.{format-sizes}
 use Rattle.slot.specs.Rule.{slotOf}
 use Rattle.slot.specs.Outcome.{mapVerdict}
+use Rattle.slot.proofs.Laws.{normal-row}
 use Rattle.slot.proofs.Accept.{mapped}
-use Rattle.slot.proofs.Exact.{mapped-digits-ok, slot-placed}
+use Rattle.slot.proofs.Rows.{mapped-digits-ok}
+use Rattle.slot.proofs.Exact.{slot-placed}
 use Rattle.bank.specs.Slots.{isLength}
 use Rattle.bank.proofs.Again.{stores-good, gives-back}
 use Rattle.bank_mapped.specs.Exact.{MappedBanked}
@@ -40,7 +42,10 @@ mapped-banked format slot tpc d tfci out answer digits p z =
     let is : digits ≡ slotOf (formatOf format) slot tpc d tfci = p .out-is ∙ leaves-done (mapVerdict format slot tpc d tfci (length out)) (slotOf (formatOf format) slot tpc d tfci) out v in
     let long : length (slotOf (formatOf format) slot tpc d tfci) ≡ formatOf format .slot = slot-placed format slot tpc d tfci (m .head .ready .data-ok) (m .head .ready .tfci-ok) .long in
     let good : isLength (length (slotOf (formatOf format) slot tpc d tfci)) ≡ true = ap isLength long ∙ length-good format (m .head .format-ok) in
-    let each = mapped-digits-ok format slot tpc d tfci (rw (m .head .ready .slot-ok) at m) .digits in
+    let each =
+    let below = m .head .slot-ok in
+    mapped-digits-ok (formatOf format) (normal-row format (m .head .format-ok)) slot tpc d tfci (omega arith) (m .head .ready .data-ok) (m .head .ready .tfci-ok) (m .fields) .digits
+    in
     rw is
     (record {
       takes = λ bank number e low new fits. stores-good bank number (slotOf (formatOf format) slot tpc d tfci) e low good each new fits;
