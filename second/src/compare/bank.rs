@@ -227,7 +227,7 @@ fn buffer_lengths(judge: &mut Judge) {
     }
 }
 
-/// Every byte of header and slots damaged to every value: mark, total, numbers, zero bytes, lengths and digits; and the bytes behind them, which are not read.
+/// Bytes damaged to every value: all of the header, of the first and the last slot, and of the middle one's front; and some behind the total, which are not read. Then any bytes, a few at a time.
 fn damage(judge: &mut Judge) {
     let (bytes, slots) = three_slots();
     let used = rules::taken(&slots);
