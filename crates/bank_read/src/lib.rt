@@ -51,8 +51,10 @@ pub fn room(bank: &[u8]) -> Counted
     if verdict.number != 0 {
         return Counted { verdict, count: 0 };
     }
+    let total = head_total(bank);
+    let left = bank.len() - total;
     Counted {
         verdict,
-        count: bank.len() - head_total(bank),
+        count: left,
     }
 }

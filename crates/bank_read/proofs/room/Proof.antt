@@ -37,8 +37,8 @@ bank-there c =
     sym (c .before .before .before .is-bank .ensures)
     ∙ unless-done _ 28 0 (lit< tt) (rw (c .before .before .unless .ensures) at (c .if1 .left))
 
-sub-t6 : tie.Need-sub-t6
-sub-t6 c =
+sub-left : tie.Need-sub-left
+sub-left c =
     let told = c .head-total .ensures in
     let e = bank-there (c .before) in
     omega (arith, total-told _ e, holds-fits (bank-holds _ e))
@@ -59,4 +59,4 @@ returns-2 c =
 pub room-spec : {M : Type 1} → statement M
 room-spec =
     tie.close
-    (tie.spec is-bank-requires unless-requires returns head-total-requires sub-t6 returns-2)
+    (tie.spec is-bank-requires unless-requires returns head-total-requires sub-left returns-2)
