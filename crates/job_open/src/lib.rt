@@ -105,7 +105,8 @@ fn count_in(file: &[u8], version: u8) -> u16
     if version == 1 {
         return first;
     }
-    first * 256 + byte_at(file, 6) as u16
+    let second = byte_at(file, 6) as u16;
+    first * 256 + second
 }
 
 // The header's line and the number of records, or the refusal and the line as it was.

@@ -15,14 +15,14 @@ cast-first c = search needs
 returns : tie.Need-returns
 returns c = c .before .byte-at .ensures ∙ sym (count-first _ _ (c .if1 .taken))
 
-mul-result : tie.Need-mul-result
-mul-result c = search needs
-
 byte-at-requires-2 : tie.Need-byte-at-requires-2
 byte-at-requires-2 c κs = search needs
 
-cast-result : tie.Need-cast-result
-cast-result c = search needs
+cast-second : tie.Need-cast-second
+cast-second c = search needs
+
+mul-result : tie.Need-mul-result
+mul-result c = search needs
 
 add-result : tie.Need-add-result
 add-result c = search needs
@@ -37,8 +37,8 @@ count-in-spec =
     byte-at-requires
     cast-first
     returns
-    mul-result
     byte-at-requires-2
-    cast-result
+    cast-second
+    mul-result
     add-result
     returns-2)
