@@ -204,6 +204,72 @@ uint64_t slt_dpi_dpcch_frame_read(uint64_t format, const svOpenArrayHandle frame
         (uint8_t *)commands_, n_commands);
 }
 
+uint64_t slt_dpi_slot_lengths(uint64_t format, uint64_t run) {
+    return slt_slot_lengths(format, run);
+}
+
+uint64_t slt_dpi_frame_lengths(uint64_t format, uint64_t run) {
+    return slt_frame_lengths(format, run);
+}
+
+uint64_t slt_dpi_compressed_lengths(uint64_t format, uint64_t kind, uint64_t first, uint64_t missing, uint64_t run) {
+    return slt_compressed_lengths(format, kind, first, missing, run);
+}
+
+uint64_t slt_dpi_dpdch_lengths(uint64_t format, uint64_t run) {
+    return slt_dpdch_lengths(format, run);
+}
+
+uint64_t slt_dpi_dpdch_frame_lengths(uint64_t format, uint64_t run) {
+    return slt_dpdch_frame_lengths(format, run);
+}
+
+uint64_t slt_dpi_dpcch_lengths(uint64_t format, uint64_t run) {
+    return slt_dpcch_lengths(format, run);
+}
+
+uint64_t slt_dpi_dpcch_frame_lengths(uint64_t format, uint64_t run) {
+    return slt_dpcch_frame_lengths(format, run);
+}
+
+uint64_t slt_dpi_hspdsch_lengths(uint64_t format, uint64_t run) {
+    return slt_hspdsch_lengths(format, run);
+}
+
+uint64_t slt_dpi_bank_empty(const svOpenArrayHandle bank, unsigned n_bank) {
+    LENT(uint8_t, bank);
+    return slt_bank_empty((uint8_t *)bank_, n_bank);
+}
+
+uint64_t slt_dpi_bank_store(const svOpenArrayHandle bank, unsigned n_bank, uint64_t number, const svOpenArrayHandle slot,
+        unsigned n_slot) {
+    LENT(uint8_t, bank);
+    LENT(uint8_t, slot);
+    return slt_bank_store((uint8_t *)bank_, n_bank, number, (uint8_t *)slot_, n_slot);
+}
+
+uint64_t slt_dpi_bank_fetch(const svOpenArrayHandle bank, unsigned n_bank, uint64_t number, const svOpenArrayHandle out,
+        unsigned n_out) {
+    LENT(uint8_t, bank);
+    LENT(uint8_t, out);
+    return slt_bank_fetch((uint8_t *)bank_, n_bank, number, (uint8_t *)out_, n_out);
+}
+
+uint64_t slt_dpi_bank_drop(const svOpenArrayHandle bank, unsigned n_bank, uint64_t number) {
+    LENT(uint8_t, bank);
+    return slt_bank_drop((uint8_t *)bank_, n_bank, number);
+}
+
+uint64_t slt_dpi_bank_length(const svOpenArrayHandle bank, unsigned n_bank, uint64_t number) {
+    LENT(uint8_t, bank);
+    return slt_bank_length((uint8_t *)bank_, n_bank, number);
+}
+
+uint64_t slt_dpi_bank_room(const svOpenArrayHandle bank, unsigned n_bank) {
+    LENT(uint8_t, bank);
+    return slt_bank_room((uint8_t *)bank_, n_bank);
+}
+
 uint64_t slt_dpi_sttd_digits(const svOpenArrayHandle source, unsigned n_source, const svOpenArrayHandle out, unsigned n_out) {
     LENT(uint8_t, source);
     LENT(uint8_t, out);

@@ -30,7 +30,7 @@ static uint64_t taken_apart(slt_sample sample, double *inphase, double *quadratu
 #define slt_sample_each(i, q, first, second, antenna, one, two) taken_apart(slt_sample_each(i, q, first, second, antenna), one, two)
 
 static uint8_t data[2000], tfci[200], commands[15], twos[300];
-static uint8_t frame[300], out[2000], second[2000], back[2000], tfci_back[200], commands_back[15];
+static uint8_t frame[300], out[2000], second[2000], back[2000], tfci_back[200], commands_back[15], bank[64];
 static int32_t indicators[16], values[32], ramp[32], indicators_back[16], values_back[32];
 static int64_t results[16];
 
