@@ -118,8 +118,8 @@ fuzz: lib judges slotline
 	$(SECOND)/fuzz $(SEED) $(CASE) | $(EMULATOR) target/fuzz/fuzz
 	test -n "$(CASE)" || $(SECOND)/jobs --fuzz $(SEED) $(PROGRAM)
 
-# The judge at work in a simulator (docs/SIMULATOR.md): the mutants of four circuits. sim-gate has fewer of them, and what must come out. Tools that make does not know of are
-# looked for by sim alone, since sim-gate is a step of test.
+# The judge at work in a simulator (docs/SIMULATOR.md): the mutants of four circuits. sim-gate has fewer of them, and compares their classes with those in sim/expected; it is
+# a step of test, which has looked for the tools.
 SIM = CC="$(CC)" CXX="$(CXX)" EMULATOR="$(EMULATOR)" SLT_LIB=$(abspath $(LIB)) python3 -B sim/all.py
 MUTANTS = 200
 sim: lib | tools-sim
