@@ -11,6 +11,7 @@ HERE = pathlib.Path(__file__).resolve().parent
 sys.path.insert(0, str(HERE / "judging"))
 
 import contract
+import generate
 import mutants
 import owed
 import prover
@@ -42,6 +43,12 @@ class Contracts(unittest.TestCase):
                 self.read(lambda text, old=old, new=new: text.replace(old, new))
         with self.assertRaisesRegex(contract.Wrong, "busy or idle"):
             self.read(lambda text: text.replace("busy    running", ""))
+
+
+    def test_pins_that_there_are_not(self):
+        module = {"ports": dict.fromkeys(["clk", "rst", "start", "format"]), "netnames": {}}
+        with self.assertRaisesRegex(contract.Wrong, "has no slot, tpc, .*running"):
+            generate.check_pins(self.read(), module)
 
 
 class Texts(unittest.TestCase):

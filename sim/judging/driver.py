@@ -3,6 +3,8 @@ import dataclasses
 import os
 import subprocess
 
+import tools
+
 
 @dataclasses.dataclass(frozen=True)
 class Step:
@@ -54,7 +56,7 @@ class Driver:
         self.process.stdin.flush()
         answer = self.process.stdout.readline()
         if not answer.endswith("\n"):
-            raise RuntimeError(f"the driver ended at: {request}")
+            raise tools.Failed(f"the driver ended at: {request[:100]}")
         return answer[:-1]
 
     def close(self):

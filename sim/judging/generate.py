@@ -1,17 +1,26 @@
 """What stands between a contract and the tools: where its pins are, and the top of a netlist. model.py and miter.py have the rest."""
 import contract as contracts
 
+
 def widths(module):
     """The width of every port of a module of yosys."""
     return {name: len(port["bits"]) for name, port in module["ports"].items()}
+
+
+def check_pins(contract, module):
+    """Every pin that the contract names is one of the circuit's, and the wire that says when a start may come is there."""
+    named = [contract.clock, contract.reset, contract.start, *contract.input_pins(), *contract.output_pins()]
+    missing = [pin for pin in named if pin not in module["ports"]]
+    if contract.rest_wire() not in module["netnames"]:
+        missing.append(contract.rest_wire())
+    if missing:
+        raise contracts.Wrong(f"{contract.circuit} has no {', '.join(missing)}")
 
 
 def places(contract, width):
     """Where each input pin begins in the vector, and the vector's width."""
     at, total = {}, 0
     for pin in contract.input_pins():
-        if pin not in width:
-            raise contracts.Wrong(f"{contract.circuit} has no pin {pin}")
         at[pin] = total
         total += width[pin]
     return at, total

@@ -13,7 +13,7 @@ def differs(contract):
     return f"(a_{contract.valid} != b_{contract.valid}){refused}{rest} | a_{contract.valid} & {value}"
 
 
-def registers(contract, module):
+def registers(module):
     """The registers of a circuit that are no output, by name and width."""
     driven = {bit for cell in module["cells"].values() if "dff" in cell["type"] for bit in cell["connections"]["Q"]}
     return {name: len(net["bits"]) for name, net in module["netnames"].items()
@@ -22,7 +22,7 @@ def registers(contract, module):
 
 def inner(contract, module):
     """What of a circuit's inside the miter looks at: its registers, and the wire that says when a start may come."""
-    found = registers(contract, module)
+    found = registers(module)
     if not contract.rest_pin:
         found.setdefault(contract.rest_wire(), 1)
     return found

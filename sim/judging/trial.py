@@ -39,6 +39,7 @@ class Trial:
         self.work = options.out.resolve()
         self.work.mkdir(parents=True, exist_ok=True)
         self.module = mutants.prepare(self.contract, self.contract.verilog(), self.work, "prepared")
+        generate.check_pins(self.contract, self.module)
         self.contract.rest_pin = self.contract.rest_wire() in self.module["ports"]
         self.mutants = mutants.listed(self.contract, self.module, self.work, options.count, options.seed)
         self.plants = [plants.read(path) for path in options.plants]
