@@ -74,6 +74,13 @@ class Texts(unittest.TestCase):
         self.assertTrue(all(value & 0b10000 for value in tried))
 
 
+    def test_smaller_numbers_leave_nothing_behind(self):
+        """A number in bits 0 and 1 that says how many of the bits from 2 on mean something."""
+        driver = types.SimpleNamespace(show=lambda step: types.SimpleNamespace(used=(1 << 2 + (step.inputs & 3)) - 1))
+        tried = list(simplify.smaller_numbers(driver, Step(0b11110), [(0, 2)], 0b01111))
+        self.assertEqual([step.inputs for step in tried], [0b10000, 0b10101])
+
+
 class Counterexamples(unittest.TestCase):
     """A counterexample becomes the streams that it has."""
     driver = types.SimpleNamespace(show=lambda step: types.SimpleNamespace(said="0101"))

@@ -90,12 +90,14 @@ def fewer_bits(value, mask):
         size //= 2
 
 
-def smaller_numbers(step, fields):
-    """Steps with a smaller number on a pin: fields are (first bit, width)."""
+def smaller_numbers(driver, step, fields, used):
+    """Steps with a smaller number on a pin: fields are (first bit, width). Bits that mean nothing by the smaller number become 0, else a
+    plain stimulus would turn into one with ones on pins that mean nothing."""
     for at, width in fields:
         value = step.inputs >> at & (2**width - 1)
         for less in range(min(value, 40)):
-            yield dataclasses.replace(step, inputs=step.inputs & ~((2**width - 1) << at) | less << at)
+            smaller = dataclasses.replace(step, inputs=step.inputs & ~((2**width - 1) << at) | less << at)
+            yield dataclasses.replace(smaller, inputs=smaller.inputs & (driver.show(smaller).used | ~used))
 
 
 def simpler(driver, step, fields, bits):
@@ -110,7 +112,7 @@ def simpler(driver, step, fields, bits):
     if step.reset_at is not None:
         yield dataclasses.replace(step, reset_at=None)
         yield from (dataclasses.replace(step, reset_at=k) for k in range(1, step.reset_at))
-    yield from smaller_numbers(step, fields)
+    yield from smaller_numbers(driver, step, fields, used)
     runs = used & ~sum((2**width - 1) << at for at, width in fields)
     for mask in (everything & ~used, runs):
         yield from (dataclasses.replace(step, inputs=inputs) for inputs in fewer_bits(step.inputs, mask))
