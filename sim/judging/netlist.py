@@ -76,7 +76,9 @@ def driver_objects(work):
         inputs = [source, here / "calls.h", *(here / "driver").glob("*.h")]
         if not to.exists() or any(path.stat().st_mtime > to.stat().st_mtime for path in inputs):
             compiler = [os.environ.get("CXX", "g++"), "-std=c++17"] if source.suffix == ".cpp" else [os.environ.get("CC", "cc"), "-std=c11"]
-            tools.run([*compiler, "-O2", "-Wall", "-Wextra", "-Werror", *include, "-c", source, "-o", to], work / (source.name + ".log"))
+            mine = work / f"{source.name}.{os.getpid()}.o"   # another judge may be at the same work
+            tools.run([*compiler, "-O2", "-Wall", "-Wextra", "-Werror", *include, "-c", source, "-o", mine], work / f"{source.name}.{os.getpid()}.log")
+            mine.replace(to)
         objects.append(to)
     return objects
 
