@@ -1,5 +1,5 @@
-# Targets: run (the program on an example job), test (the gate), lib (the proved archive for C), slotline (the program), install, bench, pictures; and the steps of
-# test: fmt, audit, second, jobs, cases, host, fuzz, package. tools-run and tools-test look for what run and test need.
+# Targets: run (the program on an example job), test (the gate), lib (the proved archive for C), slotline (the program), sim (the judge of mutants in a simulator), install,
+# bench, pictures; and the steps of test: fmt, audit, second, jobs, cases, host, fuzz, package, sim-gate. tools-run, tools-sim and tools-test look for what run, sim and test need.
 CFLAGS = -std=c11 -O2 -g -Wall -Wextra -Werror
 SANITIZE = -fsanitize=address,undefined -fno-sanitize-recover=all
 LIB = target/staticlib/libslt.a
@@ -13,6 +13,7 @@ COMPARE = cargo run
 # address sanitizer does not find the addresses that it takes.
 ifneq ($(shell uname -m),x86_64)
 CC = x86_64-linux-gnu-gcc
+CXX = x86_64-linux-gnu-g++
 AR = x86_64-linux-gnu-ar
 EMULATOR = qemu-x86_64-static
 SANITIZE = -fsanitize=undefined -fno-sanitize-recover=all -static-libubsan
@@ -21,7 +22,7 @@ COMPARE = RUSTC=/usr/bin/rustc CARGO_TARGET_X86_64_UNKNOWN_LINUX_GNU_LINKER=$(CC
     /usr/bin/cargo run --target x86_64-unknown-linux-gnu
 endif
 
-.PHONY: test tools-run tools-test steps lib slotline run fmt audit pictures judges second jobs cases host fuzz install package bench bench-programs bench-table clean
+.PHONY: test tools-run tools-sim tools-test steps sim sim-gate lib slotline run fmt audit pictures judges second jobs cases host fuzz install package bench bench-programs bench-table clean
 
 # What the steps stand on is proved first, then the steps go two at a time, the output of each in one piece. rt ci comes last: it proves every crate from
 # nothing, tries every must-fail edit, and prints the verdict. It starts eight checks at a time and waits for all
@@ -32,10 +33,10 @@ test: | tools-test
 	$(MAKE) --no-print-directory -j2 --output-sync=target steps
 	rt ci
 
-steps: fmt audit second jobs cases host fuzz package
+steps: fmt audit second jobs cases host fuzz package sim-gate
 
-# The tools, one list for both commands. What is missing is installed where it may be, else the command that does it is printed.
-tools-run tools-test:
+# The tools, one list for all commands. What is missing is installed where it may be, else the command that does it is printed.
+tools-run tools-sim tools-test:
 	@sh setup/tools.sh $(@:tools-%=%)
 
 fmt:
@@ -117,7 +118,18 @@ fuzz: lib judges slotline
 	$(SECOND)/fuzz $(SEED) $(CASE) | $(EMULATOR) target/fuzz/fuzz
 	test -n "$(CASE)" || $(SECOND)/jobs --fuzz $(SEED) $(PROGRAM)
 
-# The archive, its header and its pkg-config file, the program and its man page. PREFIX is where they will be used, and
+# The judge at work in a simulator (docs/SIMULATOR.md): the mutants of four circuits. sim-gate has fewer of them, and compares their classes with those in sim/expected; it is
+# a step of test, which has looked for the tools.
+SIM = CC="$(CC)" CXX="$(CXX)" EMULATOR="$(EMULATOR)" SLT_LIB=$(abspath $(LIB)) python3 -B sim/all.py
+MUTANTS = 200
+sim: lib | tools-sim
+	$(SIM) --mutants $(MUTANTS) --seed $(SEED)
+
+sim-gate: lib
+	python3 -B sim/test_judge.py --quiet
+	SIM_QUIET=1 $(SIM) --gate
+
+# The archive, its header and its pkg-config file, what a SystemVerilog bench needs, the program and its man page. PREFIX is where they will be used, and
 # DESTDIR stands before it where they are only put together.
 PREFIX = /usr/local
 VERSION = 1.0
@@ -125,17 +137,19 @@ install: lib slotline
 	install -D -m 644 $(LIB) "$(DESTDIR)$(PREFIX)/lib/libslt.a"
 	install -D -m 644 include/slt.h "$(DESTDIR)$(PREFIX)/include/slt.h"
 	install -D -m 755 $(SLOTLINE) "$(DESTDIR)$(PREFIX)/bin/slotline"
+	install -D -m 644 sim/slt_pkg.sv "$(DESTDIR)$(PREFIX)/share/slt/slt_pkg.sv"
+	install -D -m 644 sim/slt_dpi.c "$(DESTDIR)$(PREFIX)/share/slt/slt_dpi.c"
 	install -D -m 644 packaging/slotline.1 "$(DESTDIR)$(PREFIX)/share/man/man1/slotline.1"
 	sed 's|@PREFIX@|$(PREFIX)|; s|@VERSION@|$(VERSION)|' packaging/slt.pc.in > target/slt.pc
 	install -D -m 644 target/slt.pc "$(DESTDIR)$(PREFIX)/lib/pkgconfig/slt.pc"
 
-# An installation as another project meets it: its man page, its program, and a C program that is told by pkg-config alone
-# where the header and the archive are.
+# An installation as another project meets it: its man page, its program, and a C program and a SystemVerilog bench that are told by pkg-config alone
+# where everything is.
 INSTALLED = $(abspath target/install)
 package: lib slotline
 	rm -rf target/install target/outside
 	$(MAKE) --no-print-directory -o lib -o slotline install DESTDIR= PREFIX=$(INSTALLED)
-	CC=$(CC) EMULATOR=$(EMULATOR) sh packaging/try.sh $(INSTALLED) target/outside
+	CC="$(CC)" CXX="$(CXX)" EMULATOR="$(EMULATOR)" sh packaging/try.sh $(INSTALLED) target/outside
 
 # Ratios to plain C, to tight C and to memcpy, in one run. It fails where the library and the C beside it answer or write anything that is not the
 # same; nothing fails by its numbers. The program slotline is timed against programs of its own.

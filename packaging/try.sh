@@ -1,10 +1,10 @@
 #!/bin/sh
 # Tries an installation the way another project meets it: builds examples/outside by what pkg-config says, runs it, runs the
-# program on an example, and looks at the man page.
+# program on an example, looks at the man page, and makes every call from a SystemVerilog bench.
 #
 #     packaging/try.sh PREFIX WORK     WORK is a directory for what is made on the way
 #
-# CC is the compiler; EMULATOR runs what it compiles, where the machine itself does not.
+# CC and CXX are the compilers; EMULATOR runs what they compile, where the machine itself does not.
 set -eu
 prefix=$1
 work=$2
@@ -35,4 +35,8 @@ if command -v groff > /dev/null; then
     warnings=$(groff -man -Tascii -ww "$page" 2>&1 > /dev/null)
     test -z "$warnings" || { echo "$warnings" >&2; exit 1; }
 fi
+# What a SystemVerilog bench needs stands where pkg-config says.
+svdir=$(pkg-config --variable=svdir slt)
+sh "$examples/../sim/dpi/try.sh" "$svdir/slt_pkg.sv" "$svdir/slt_dpi.c" "$(pkg-config --variable=libdir slt)/libslt.a" \
+    "$(pkg-config --variable=includedir slt)" systemverilog
 echo "package: slt $(pkg-config --modversion slt) builds an outside program, and it prints what it should"

@@ -1,18 +1,17 @@
 #!/bin/sh
-# Looks for the tools that `make run` or `make test` needs, before either does anything. What is missing is installed from Debian's packages where that may be
+# Looks for the tools that `make run`, `make sim` or `make test` needs, before it does anything. What is missing is installed from Debian's packages where that may be
 # done (by root, with apt-get); else the one command that does it is printed. Until something is missing it uses nothing but the shell and cargo's own version.
 #
-#     setup/tools.sh run|test
+#     setup/tools.sh run|sim|test
 set -eu
-for_test=${1:?run or test}
-test "$for_test" = test || for_test=
+command=${1:?run, sim or test}
 
-# The one list: a tool, the package of Debian that has it, and which command needs it (test needs all that run needs). rt itself uses some of them. What has the
+# The one list: a tool, the package of Debian that has it, and which command needs it (sim needs all that run needs, test needs all). rt itself uses some of them. What has the
 # mark 'else' is for processors other than x86-64, for which the prover compiles: there it is what compiles and runs programs of x86-64.
 tools() {
     while read -r tool package needed where; do
         if test "$where" = else && test "$(uname -m)" = x86_64; then continue; fi
-        if test "$needed" = run || test -n "$for_test"; then "$1" "$tool" "$package"; fi
+        if test "$needed" = run || test "$needed" = "$command" || test "$command" = test; then "$1" "$tool" "$package"; fi
     done << 'LIST'
 make        make        run
 flock       util-linux  run
@@ -20,15 +19,19 @@ awk         mawk        run
 sed         sed         run
 find        findutils   run
 cmp         diffutils   run
-cc          gcc         test
-ar          binutils    test
-python3     python3     test
+cc          gcc         sim
+ar          binutils    sim
+python3     python3     sim
+g++         g++         sim
+verilator   verilator   sim
+yosys       yosys       sim
 pkg-config  pkg-config  test
 cargo       cargo       test
 qemu-x86_64-static           qemu-user-static           run   else
 /lib64/ld-linux-x86-64.so.2  libc6:amd64                run   else
-x86_64-linux-gnu-gcc         gcc-x86-64-linux-gnu       test  else
-x86_64-linux-gnu-ar          binutils-x86-64-linux-gnu  test  else
+x86_64-linux-gnu-gcc         gcc-x86-64-linux-gnu       sim   else
+x86_64-linux-gnu-g++         g++-x86-64-linux-gnu       sim   else
+x86_64-linux-gnu-ar          binutils-x86-64-linux-gnu  sim   else
 rust-for-x86-64              libstd-rust-web-dev:amd64  test  else
 LIST
 }
