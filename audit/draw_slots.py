@@ -1,4 +1,4 @@
-"""docs/slots.svg: the fields of the slots, the PICH frame and a pair of P-CCPCH slots, by the numbers of the specs.
+"""docs/slots.svg: the fields of the slots, the PICH frame, a pair of P-CCPCH slots and the blocks of the HS-PDSCH, by the numbers of the specs.
 
 A new table of formats is one more section in `parts`: its title, what its rows are called, and where the specs have it.
 """
@@ -45,13 +45,13 @@ def bar(y, label, fields, length):
     yield svg.text(LEFT + WIDE + 10, y + 12, f"{length}{parts}", 11, "start")
 
 
-def formats(y, title, slots, *notes):
+def formats(y, title, slots, labels, *notes):
     """A table of formats: a bar for each."""
     order = [field for field, count in slots[0][0]]
     yield from heading(y, title, *notes)
     yield from legend(y + 58, order)
     for number, (fields, length) in enumerate(slots):
-        yield from bar(y + HEAD + ROW * number, f"format {number}", fields, length)
+        yield from bar(y + HEAD + ROW * number, f"format {labels[number]}", fields, length)
 
 
 def pich(y, length, tail, numbers):
@@ -99,20 +99,49 @@ def pccpch(y, slot, data, silent, block):
     yield svg.line(LEFT + WIDE / 2, y - 16, LEFT + WIDE / 2, y + 54, svg.INK, stroke_width=1.5)
 
 
+def blocks(y, label, width, sent):
+    """Eight digits on both antennas, in blocks of so many: in each cell the digit of antenna 1 that stands there, with a bar where it is changed."""
+    unit = WIDE / 24
+    for row, (name, digits) in enumerate((("antenna 1", [(k, False) for k in range(8)]), ("antenna 2", sent))):
+        top = y + 26 * row
+        yield svg.text(LEFT - 8, top + 14, name, 12, "end")
+        for k, (digit, barred) in enumerate(digits):
+            x = LEFT + unit * k
+            yield svg.box(x, top, unit, 20, svg.colour(0.58, 0.84 if k // width % 2 else 0.93), svg.GREY, stroke_width=0.8)
+            yield svg.text(x + unit / 2, top + 15, f"b{digit}", 10)
+            if barred:
+                yield svg.line(x + 7, top + 4.5, x + unit - 7, top + 4.5, svg.INK, stroke_width=1.2)
+    yield svg.text(LEFT + unit * 8 + 14, y + 28, label, 11, "start")
+
+
+def hspdsch(y, block, figure):
+    yield from heading(y, "HS-PDSCH: the first eight digits of a slot on both antennas",
+                       "In each cell the digit of antenna 1 that stands there. A line over it is the bar: 0 and 1 change places. So it goes on, block by block.")
+    yield from blocks(y + 36, "format 0, QPSK: two blocks of four; a symbol is two digits, i q", 4, [(k // 4 * 4 + block[k % 4][0], block[k % 4][1]) for k in range(8)])
+    yield from blocks(y + 104, "format 1, 16QAM: a block of eight; a symbol is four digits, i1 q1 i2 q2, and the bar stands on signs (i1, q1) alone", 8, figure)
+
+
 def draw(tree):
+    numbered = range(len(slot_specs.slots(tree, slot_specs.DPCH)))
     tables = (
-        ("Downlink DPCH: the fields of a slot", slot_specs.slots(tree, slot_specs.DPCH),
+        ("Downlink DPCH: the fields of a slot", slot_specs.slots(tree, slot_specs.DPCH), numbered,
          "Each bar is one slot, drawn over the full width whatever its length: a digit is wide in a short slot and narrow in a long one.",
          "At the right stand the digits of the slot and those of its fields, in their order."),
-        ("Uplink DPDCH: the only field of a slot", slot_specs.dpdch(tree), "As above. A slot is its data, whichever slot of the frame it is; nothing is DTX."),
-        ("Uplink DPCCH: the fields of a slot", slot_specs.slots(tree, slot_specs.DPCCH), "As above. Every slot has ten digits; the pilot stands first, the TPC command last."),
+        ("Downlink DPCH in compressed frames: the fields of a slot", slot_specs.compressed_slots(tree), list(slot_specs.compressed(tree)),
+         "As above. A has twice the TFCI digits of the normal format, and Data2 gives up as many; in B every field is doubled. 8 to 14 slots of a frame",
+         "are transmitted, and the missing ones are all DTX."),
+        ("Uplink DPDCH: the only field of a slot", slot_specs.dpdch(tree), numbered, "As above. A slot is its data, whichever slot of the frame it is; nothing is DTX."),
+        ("Uplink DPCCH: the fields of a slot", slot_specs.slots(tree, slot_specs.DPCCH), numbered, "As above. Every slot has ten digits; the pilot stands first, the TPC command last."),
+        ("HS-PDSCH: the only field of a slot", slot_specs.hspdsch(tree), numbered, "As above. Format 0 is QPSK and format 1 16QAM; a subframe is three slots, and no digit is DTX."),
     )
     length, tail, numbers = slot_specs.pich(tree)
     parts, y = [], 28
-    for title, slots, *notes in tables:
-        parts += formats(y, title, slots, *notes)
+    for title, slots, labels, *notes in tables:
+        parts += formats(y, title, slots, labels, *notes)
         y += HEAD + ROW * len(slots) + 36
     parts += pich(y, length, tail, numbers)
     y += 46 + ROW * len(numbers) + 44
     parts += pccpch(y, *slot_specs.pccpch(tree), slot_specs.block(tree))
-    return svg.picture(PAGE, y + 147, "The slots and frames, by the numbers of the specs", parts)
+    y += 177
+    parts += hspdsch(y, slot_specs.block(tree), slot_specs.figure(tree))
+    return svg.picture(PAGE, y + 170, "The slots and frames, by the numbers of the specs", parts)

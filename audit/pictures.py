@@ -23,19 +23,21 @@ def drawn_anew(tree, picture):
 
 
 def tables(tree):
-    """The tables that the page of rules has as well: what each is called, and the cells of its rows behind the number. The downlink's has the columns of the
-    spec, those of the uplink have the fields in their order and then the slot."""
-    yield "formats", [row.values() for row in slot_specs.listed(tree, *slot_specs.DPCH)]
+    """The tables that the page of rules has as well: what each is called, and the cells of its rows. The downlink's have the columns of the spec, those of the uplink
+    have the fields in their order and then the slot."""
+    yield "formats", [(number, *row.values()) for number, row in enumerate(slot_specs.listed(tree, *slot_specs.DPCH))]
+    compressed = slot_specs.compressed(tree).items()
+    yield "compressed formats", [(name, *list(row.values())[:-2], f"{row['fewest']} to {row['most']}") for name, row in compressed]
     for slots in (slot_specs.dpdch(tree), slot_specs.slots(tree, slot_specs.DPCCH)):
-        yield "the uplink's formats", [[count for field, count in fields] + [length] for fields, length in slots]
-    yield "the uplink's pilot bits", slot_specs.pilots(tree)
+        yield "the uplink's formats", [(number, *(count for field, count in fields), length) for number, (fields, length) in enumerate(slots)]
+    yield "the uplink's pilot bits", [(number, *cells) for number, cells in enumerate(slot_specs.pilots(tree))]
 
 
 def rules_tables(tree):
     lines = tree.text(RULES).splitlines() if tree.has(RULES) else None
     for name, rows in tables(tree):
-        for number, cells in enumerate(rows):
-            line = "| " + " | ".join(map(str, (number, *cells))) + " |"
+        for cells in rows:
+            line = "| " + " | ".join(map(str, cells)) + " |"
             if lines is not None and line not in lines:
                 yield f"{RULES}: the table of {name} has no row {line}"
 

@@ -4,8 +4,9 @@ A reader that does not find the form of words it looks for says so: the spec has
 """
 import re
 
-FORMATS, UPLINK, PILOTS, PICH, PCCPCH, STTD = (f"crates/{name}.antt" for name in (
-    "dpch/specs/Formats", "dpch/specs/Uplink", "dpch/specs/UplinkPilots", "pich/specs/Rule", "pccpch/specs/Rule", "sttd/specs/Rule"))
+FORMATS, COMPRESSED, UPLINK, PILOTS, PICH, PCCPCH, STTD = (f"crates/{name}.antt" for name in (
+    "dpch/specs/Formats", "dpch/specs/Compressed", "dpch/specs/Uplink", "dpch/specs/UplinkPilots", "pich/specs/Rule", "pccpch/specs/Rule", "sttd/specs/Rule"))
+HSPDSCH = "crates/hspdsch/specs/Rule.antt"
 # The tables of formats: the file, the table's name, the definition of its rows and that of the fields' order.
 DPCH, DPCCH = (FORMATS, "formats", "row", "widths"), (UPLINK, "dpcchFormats", "dpcchRow", "dpcchWidths")
 
@@ -36,13 +37,36 @@ def fields(tree, path, name, row, widths):
     return re.findall(r"f \.(\w+)", found(tree, path, rf"^{widths} f = (.*?)$")[1])
 
 
+def filled(path, order, row):
+    """A row as the list of its fields and widths, and its length. The fields must fill the slot."""
+    if sum(row[field] for field in order) != row["slot"]:
+        raise Unread(f"{path}: the fields of {row} do not fill its slot")
+    return [(field, row[field]) for field in order], row["slot"]
+
+
 def slots(tree, table):
-    """Each format of a table as the list of its fields and widths, and its length. The fields must fill the slot."""
-    path, order, rows = table[0], fields(tree, *table), listed(tree, *table)
-    for row in rows:
-        if sum(row[field] for field in order) != row["slot"]:
-            raise Unread(f"{path}: the fields of {row} do not fill its slot")
-    return [([(field, row[field]) for field in order], row["slot"]) for row in rows]
+    """So each format of a table."""
+    order = fields(tree, *table)
+    return [filled(table[0], order, row) for row in listed(tree, *table)]
+
+
+def compressed(tree):
+    """The rows of compressed frames by their names, 0A, 0B, 1B and so on; noRow stands where the table has none. The last two columns are the slots that are transmitted,
+    at least and at most."""
+    columns, fewest, most = found(tree, COMPRESSED, r"^compressedRow kind ([\w ]+) =\n[^\n]*fewest = (\d+); most = (\d+) }$").groups()
+    rows = {}
+    for letter in "AB":
+        table = found(tree, COMPRESSED, rf"^formats{letter} =\n(.*?)\[\]$")[1]
+        for number, line in enumerate(re.findall(rf"(noRow|row{letter} (?:\d+ ?)+)$", table, re.M)):
+            if line != "noRow":
+                rows[f"{number}{letter}"] = dict(zip(columns.split(), map(int, line.split()[1:]), strict=True), fewest=int(fewest), most=int(most))
+    return dict(sorted(rows.items(), key=lambda row: (int(row[0][:-1]), row[0][-1])))
+
+
+def compressed_slots(tree):
+    """So each of them, in the order of the normal formats' fields."""
+    order = fields(tree, *DPCH)
+    return [filled(COMPRESSED, order, row) for row in compressed(tree).values()]
 
 
 def dpdch(tree):
@@ -85,4 +109,16 @@ def pccpch(tree):
 def block(tree):
     """What antenna 2 sends for a block b0 b1 b2 b3: for each place the entry, and whether it has a bar."""
     words = found(tree, STTD, r"^sttd bar \(b0 ∷ b1 ∷ b2 ∷ b3 ∷ rest\) = (.*) ∷ sttd bar rest$")[1].split(" ∷ ")
+    return [(int(word[-1]), word.startswith("bar ")) for word in words]
+
+
+def hspdsch(tree):
+    """The slots of the HS-PDSCH, whose only field is data."""
+    sizes = [int(word) for word in found(tree, HSPDSCH, r"^slotSizes = ((?:\d+ ∷ )+)\[\]$")[1].split(" ∷ ")[:-1]]
+    return [([("data", size)], size) for size in sizes]
+
+
+def figure(tree):
+    """What antenna 2 sends for a block of eight: for each place the digit, and whether it has a bar."""
+    words = found(tree, HSPDSCH, r"^figure8A = ((?:(?:bar|plain) \d ∷ )+)\[\]$")[1].split(" ∷ ")[:-1]
     return [(int(word[-1]), word.startswith("bar ")) for word in words]

@@ -7,12 +7,16 @@ int main(int n_arguments, char **arguments) {
     bench_dpch();
     bench_antenna();
     bench_frame();
+    bench_compressed();
     bench_dpdch();
     bench_dpcch();
     bench_pich();
+    bench_wake();
     bench_pccpch();
+    bench_hspdsch();
     bench_sttd();
     bench_aich();
+    bench_desk();
     bench_sample();
     if (n_arguments == 4) bench_slotline(arguments[1], arguments[2], arguments[3]);
     return 0;

@@ -39,8 +39,8 @@ static inline const uint8_t *pilot_of(const struct format *f, size_t slot) {
     return f->pilot == 2 ? PILOT[slot] + 2 : PILOT[slot];
 }
 
-static inline void write_slot(const struct format *f, size_t slot, size_t tpc, const uint8_t *data, const uint8_t *tfci,
-                              uint8_t *out) {
+static inline void write_fields(const struct format *f, const uint8_t *pilot, size_t tpc, const uint8_t *data,
+                                const uint8_t *tfci, uint8_t *out) {
     memcpy(out, data, f->data1);
     out += f->data1;
     memset(out, (int)tpc, f->tpc);
@@ -49,7 +49,12 @@ static inline void write_slot(const struct format *f, size_t slot, size_t tpc, c
     out += f->tfci;
     memcpy(out, data + f->data1, f->data2);
     out += f->data2;
-    memcpy(out, pilot_of(f, slot), f->pilot);
+    memcpy(out, pilot, f->pilot);
+}
+
+static inline void write_slot(const struct format *f, size_t slot, size_t tpc, const uint8_t *data, const uint8_t *tfci,
+                              uint8_t *out) {
+    write_fields(f, pilot_of(f, slot), tpc, data, tfci, out);
 }
 
 static inline void take_fields(const struct format *f, const uint8_t *run, uint8_t *data, uint8_t *tfci) {

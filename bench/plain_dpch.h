@@ -30,8 +30,8 @@ static inline uint64_t check_fields(const struct format *f, size_t k, size_t tpc
     return 0;
 }
 
-/* The checks of a slot before it is read. It begins at `begin` of the run that places count in. */
-static inline uint64_t check_slot(const struct format *f, size_t slot, const uint8_t *run, size_t begin) {
+/* The checks of a slot with this pilot before it is read. It begins at `begin` of the run that places count in. */
+static inline uint64_t check_digits(const struct format *f, const uint8_t *pilot, const uint8_t *run, size_t begin) {
     size_t i = first_above(run, f->slot, 2);
     if (i < f->slot) return refuse(4, begin + i);
     size_t at = f->data1;
@@ -42,11 +42,14 @@ static inline uint64_t check_slot(const struct format *f, size_t slot, const uin
     i = first_mixed(run + at, f->tfci);
     if (i < f->tfci) return refuse(6, begin + at + i);
     at += (size_t)f->tfci + f->data2;
-    const uint8_t *pilot = pilot_of(f, slot);
     for (i = 0; i < f->pilot; i++) {
         if (run[at + i] != pilot[i]) return refuse(7, begin + at + i);
     }
     return 0;
+}
+
+static inline uint64_t check_slot(const struct format *f, size_t slot, const uint8_t *run, size_t begin) {
+    return check_digits(f, pilot_of(f, slot), run, begin);
 }
 
 #endif

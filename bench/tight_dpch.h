@@ -13,14 +13,18 @@ static inline bool is_mixed(const uint8_t *s, size_t n) {
     return other & 2;
 }
 
-/* Of digits that are not above 2: whether TPC, TFCI or pilot of a slot is none that some fields give. */
-static inline bool is_misfit(const struct format *f, size_t slot, const uint8_t *run) {
+/* Of digits that are not above 2: whether TPC, TFCI or pilot of a slot with this pilot is none that some fields give. */
+static inline bool misfits(const struct format *f, const uint8_t *wanted, const uint8_t *run) {
     const uint8_t *tpc = run + f->data1, *tfci = tpc + f->tpc, *pilot = tfci + f->tfci + f->data2;
     uint8_t unlike = tpc[0] & 2;
     for (size_t i = 0; i < f->tpc; i++) {
         unlike |= tpc[i] ^ tpc[0];
     }
-    return unlike || is_mixed(tfci, f->tfci) || memcmp(pilot, pilot_of(f, slot), f->pilot) != 0;
+    return unlike || is_mixed(tfci, f->tfci) || memcmp(pilot, wanted, f->pilot) != 0;
+}
+
+static inline bool is_misfit(const struct format *f, size_t slot, const uint8_t *run) {
+    return misfits(f, pilot_of(f, slot), run);
 }
 
 #endif

@@ -25,6 +25,12 @@
                                uint8_t *out, size_t n_out, const uint8_t *commands, size_t n_commands);                         \
     uint64_t whose##_frame_read(size_t format, const uint8_t *frame, size_t n_frame, uint8_t *data, size_t n_data,              \
                                 uint8_t *tfci, size_t n_tfci, uint8_t *commands, size_t n_commands);                            \
+    uint64_t whose##_compressed_map(size_t format, size_t kind, size_t first, size_t missing, const uint8_t *data,              \
+                                    size_t n_data, const uint8_t *tfci, size_t n_tfci, uint8_t *out, size_t n_out,              \
+                                    const uint8_t *commands, size_t n_commands);                                                \
+    uint64_t whose##_compressed_read(size_t format, size_t kind, size_t first, size_t missing, const uint8_t *frame,            \
+                                     size_t n_frame, uint8_t *data, size_t n_data, uint8_t *tfci, size_t n_tfci,                \
+                                     uint8_t *commands, size_t n_commands);                                                     \
     uint64_t whose##_dpdch_map(size_t format, const uint8_t *data, size_t n_data, uint8_t *out, size_t n_out);                  \
     uint64_t whose##_dpdch_read(size_t format, const uint8_t *run, size_t n_run, uint8_t *data, size_t n_data);                 \
     uint64_t whose##_dpdch_frame_map(size_t format, const uint8_t *data, size_t n_data, uint8_t *out, size_t n_out);            \
@@ -40,10 +46,17 @@
     uint64_t whose##_pich_q(size_t np, size_t pi, size_t sfn);                                                                  \
     uint64_t whose##_pich_map(size_t np, const uint8_t *indicators, size_t n_indicators, uint8_t *frame, size_t n_frame);       \
     uint64_t whose##_pich_read(size_t np, const uint8_t *frame, size_t n_frame, uint8_t *indicators, size_t n_indicators);      \
+    uint64_t whose##_wake_run(size_t np, size_t pi, const uint8_t *frames, size_t n, uint32_t *read, uint32_t *woke,            \
+                              uint32_t *next_sfn);                                                                              \
+    uint64_t whose##_wake_step(slt_tally *tally, size_t np, size_t pi, const uint8_t *frame, size_t n);                         \
     uint64_t whose##_pccpch_map(const uint8_t *data, size_t n_data, uint8_t *antenna1, size_t n1, uint8_t *antenna2,            \
                                 size_t n2);                                                                                     \
     uint64_t whose##_pccpch_read(const uint8_t *antenna1, size_t n1, const uint8_t *antenna2, size_t n2, uint8_t *data,         \
                                  size_t n_data);                                                                                \
+    uint64_t whose##_hspdsch_map(size_t format, const uint8_t *data, size_t n_data, uint8_t *antenna1, size_t n1,               \
+                                 uint8_t *antenna2, size_t n2);                                                                 \
+    uint64_t whose##_hspdsch_read(size_t format, const uint8_t *antenna1, size_t n1, const uint8_t *antenna2, size_t n2,        \
+                                  uint8_t *data, size_t n_data);                                                                \
     uint64_t whose##_sttd_digits(const uint8_t *input, size_t n_input, uint8_t *out, size_t n_out);                             \
     uint64_t whose##_sttd_values(const int32_t *input, size_t n_input, int32_t *out, size_t n_out);                             \
     uint64_t whose##_aich_map(const int32_t *indicators, size_t n_indicators, int32_t *values, size_t n_values);                \
@@ -52,6 +65,10 @@
                                         int32_t *values, size_t n_values);                                                      \
     uint64_t whose##_aich_read_available(uint16_t available, const int32_t *values, size_t n_values,                            \
                                          int32_t *indicators, size_t n_indicators);                                             \
+    uint64_t whose##_desk_serve(size_t *last, uint16_t heard, uint16_t available, size_t n, int32_t *values,                    \
+                                size_t n_values);                                                                               \
+    uint64_t whose##_desk_to_aich(size_t timing);                                                                               \
+    uint64_t whose##_desk_to_message(size_t timing);                                                                            \
     uint64_t whose##_aich_combine(int64_t h1_re, int64_t h1_im, int64_t h2_re, int64_t h2_im, const int32_t *received,          \
                                   size_t n_received, int64_t *results, size_t n_results);                                       \
     uint64_t whose##_aich_combine_by_terms(int64_t h1_re, int64_t h1_im, int64_t h2_re, int64_t h2_im, const int32_t *received, \

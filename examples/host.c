@@ -103,6 +103,71 @@ static int two_antennas(void) {
     return 0;
 }
 
+/* A compressed frame of format 0B with slots 4 to 6 missing, read back, and with a digit sent in the gap; and a gap that runs past slot 14. */
+static int compressed(void) {
+    enum { FORMAT = 0, KIND_B = 2, FIRST = 4, MISSING = 3, SENT = 15 - MISSING, SLOT = 20 };
+    const uint8_t commands[SENT] = {0, 1, 1, 0, 1, 0, 0, 0, 1, 1, 1, 0};
+    uint8_t data[SENT * 8], frame[15 * SLOT], data_back[sizeof data], commands_back[SENT];
+    for (size_t i = 0; i < sizeof data; i++) {
+        data[i] = i % 3;
+    }
+
+    uint64_t mapped = slt_compressed_map(FORMAT, KIND_B, FIRST, MISSING, data, sizeof data, NULL, 0, frame, sizeof frame,
+                                         commands, sizeof commands);
+    print_answer("slt_compressed_map", mapped);
+    if (SLT_NUMBER(mapped) != SLT_DONE) {
+        return 1;
+    }
+    for (size_t slot = FIRST - 1; slot <= FIRST + MISSING; slot++) {
+        print_digits("slot", frame + slot * SLOT, SLOT);
+    }
+
+    uint64_t read = slt_compressed_read(FORMAT, KIND_B, FIRST, MISSING, frame, sizeof frame, data_back, sizeof data_back, NULL,
+                                        0, commands_back, sizeof commands_back);
+    print_answer("slt_compressed_read", read);
+    if (SLT_NUMBER(read) != SLT_DONE || memcmp(data, data_back, sizeof data) != 0 ||
+        memcmp(commands, commands_back, sizeof commands) != 0) {
+        return 1;
+    }
+
+    frame[5 * SLOT + 7] = 0;
+    print_answer("slt_compressed_read of a digit in the gap",
+                 slt_compressed_read(FORMAT, KIND_B, FIRST, MISSING, frame, sizeof frame, data_back, sizeof data_back, NULL, 0,
+                                     commands_back, sizeof commands_back));
+    print_answer("slt_compressed_map past slot 14",
+                 slt_compressed_map(FORMAT, KIND_B, 13, MISSING, data, sizeof data, NULL, 0, frame, sizeof frame, commands,
+                                    sizeof commands));
+    return 0;
+}
+
+/* A subframe of high-speed data in 16QAM on two antennas, read back, and with its last digit on the second damaged. */
+static int high_speed(void) {
+    enum { SUBFRAME = 1920 };
+    static uint8_t data[SUBFRAME], antenna1[SUBFRAME], antenna2[SUBFRAME], data_back[SUBFRAME];
+
+    for (size_t i = 0; i < SUBFRAME; i++) {
+        data[i] = (uint8_t)(i / 2 % 2);
+    }
+    uint64_t mapped = slt_hspdsch_map(1, data, SUBFRAME, antenna1, SUBFRAME, antenna2, SUBFRAME);
+    print_answer("slt_hspdsch_map", mapped);
+    if (SLT_NUMBER(mapped) != SLT_DONE) {
+        return 1;
+    }
+    print_digits("first block on antenna 1", antenna1, 8);
+    print_digits("first block on antenna 2", antenna2, 8);
+
+    uint64_t read = slt_hspdsch_read(1, antenna1, SUBFRAME, antenna2, SUBFRAME, data_back, SUBFRAME);
+    print_answer("slt_hspdsch_read", read);
+    if (SLT_NUMBER(read) != SLT_DONE || memcmp(data, data_back, SUBFRAME) != 0) {
+        return 1;
+    }
+
+    antenna2[SUBFRAME - 1] ^= 1;
+    print_answer("slt_hspdsch_read of a damaged second antenna",
+                 slt_hspdsch_read(1, antenna1, SUBFRAME, antenna2, SUBFRAME, data_back, SUBFRAME));
+    return 0;
+}
+
 /* An uplink control slot of format 2 from its fields, read back, and read as another slot; then ten digits of uplink data. */
 static int uplink(void) {
     const uint8_t tfci[2] = {0, 1}, fbi[1] = {1}, data[10] = {0, 1, 1, 0, 0, 1, 0, 1, 1, 1};
@@ -129,6 +194,49 @@ static int uplink(void) {
     return 0;
 }
 
+/* The three access slots of docs/DESK.md, the desk with them, and when a message may follow its preamble. */
+static int random_access(void) {
+    const uint16_t heard[3] = {0x4224, 0x4204, 0x0004}, available[3] = {0xffff, 0xffff, 0xfffb};
+    size_t last = SLT_DESK_FRESH;
+    int32_t values[32];
+
+    for (size_t i = 0; i < 3; i++) {
+        uint64_t served = slt_desk_serve(&last, heard[i], available[i], 2, values, 32);
+        print_answer("slt_desk_serve", served);
+        if (SLT_NUMBER(served) != SLT_DONE) {
+            return 1;
+        }
+        printf("desk %zu, values 10 to 13 %" PRId32 " %" PRId32 " %" PRId32 " %" PRId32 "\n", last, values[10], values[11],
+               values[12], values[13]);
+    }
+    print_answer("slt_desk_serve for 17", slt_desk_serve(&last, heard[0], available[0], 17, values, 32));
+    printf("desk %zu\n", last);
+    print_answer("slt_desk_to_aich(0)", slt_desk_to_aich(0));
+    print_answer("slt_desk_to_message(1)", slt_desk_to_message(1));
+    return 0;
+}
+
+/* Three recorded PICH frames from SFN 4095 on, of which the last is damaged: a step for the first, and then all in one run. */
+static int waking(void) {
+    const uint8_t ones[36] = {[7] = 1, [25] = 1};
+    uint8_t frames[3 * 300];
+    slt_tally tally = {0, 0, 4095};
+    uint32_t read = 0, woke = 0, next_sfn = 4095;
+
+    for (size_t k = 0; k < 3; k++) {
+        if (SLT_NUMBER(slt_pich_map(36, ones, sizeof ones, frames + 300 * k, 300)) != SLT_DONE) {
+            return 1;
+        }
+    }
+    frames[2 * 300 + 299] = 0;
+
+    print_answer("slt_wake_step", slt_wake_step(&tally, 36, 7, frames, 300));
+    printf("read %" PRIu32 " woke %" PRIu32 " next SFN %" PRIu32 "\n", tally.read, tally.woke, tally.next_sfn);
+    print_answer("slt_wake_run", slt_wake_run(36, 7, frames, sizeof frames, &read, &woke, &next_sfn));
+    printf("read %" PRIu32 " woke %" PRIu32 " next SFN %" PRIu32 "\n", read, woke, next_sfn);
+    return 0;
+}
+
 int main(void) {
-    return paging() || slot() || two_antennas() || uplink();
+    return paging() || slot() || two_antennas() || compressed() || high_speed() || uplink() || random_access() || waking();
 }

@@ -47,6 +47,24 @@ static void pich_read(struct test *t) {
     t->got = slt_pich_read(t->given[0], digits(t, 0), n(t, 0), digits(t, 1), n(t, 1));
 }
 
+/* A number that comes and goes through its pointer is told as it is to be afterwards; what it holds before the call is given. */
+static uint32_t *number(const struct test *t, size_t i, uint64_t before) {
+    uint32_t *lent = (uint32_t *)(void *)t->run[i].lent;
+    *lent = (uint32_t)before;
+    return lent;
+}
+
+static void wake_run(struct test *t) {
+    t->got = slt_wake_run(t->given[0], t->given[1], digits(t, 0), n(t, 0), number(t, 1, t->given[2]), number(t, 2, t->given[3]),
+                          number(t, 3, t->given[4]));
+}
+
+static void wake_step(struct test *t) {
+    slt_tally *tally = (slt_tally *)(void *)t->run[1].lent;
+    *tally = (slt_tally){(uint32_t)t->given[2], (uint32_t)t->given[3], (uint32_t)t->given[4]};
+    t->got = slt_wake_step(tally, t->given[0], t->given[1], digits(t, 0), n(t, 0));
+}
+
 static void slot_map(struct test *t) {
     t->got = slt_slot_map(t->given[0], t->given[1], t->given[2], digits(t, 0), n(t, 0), digits(t, 1), n(t, 1), digits(t, 2),
                           n(t, 2));
@@ -74,6 +92,16 @@ static void frame_map(struct test *t) {
 static void frame_read(struct test *t) {
     t->got = slt_frame_read(t->given[0], digits(t, 0), n(t, 0), digits(t, 1), n(t, 1), digits(t, 2), n(t, 2), digits(t, 3),
                             n(t, 3));
+}
+
+static void compressed_map(struct test *t) {
+    t->got = slt_compressed_map(t->given[0], t->given[1], t->given[2], t->given[3], digits(t, 0), n(t, 0), digits(t, 1), n(t, 1),
+                                digits(t, 2), n(t, 2), digits(t, 3), n(t, 3));
+}
+
+static void compressed_read(struct test *t) {
+    t->got = slt_compressed_read(t->given[0], t->given[1], t->given[2], t->given[3], digits(t, 0), n(t, 0), digits(t, 1), n(t, 1),
+                                 digits(t, 2), n(t, 2), digits(t, 3), n(t, 3));
 }
 
 static void dpdch_map(struct test *t) {
@@ -127,6 +155,14 @@ static void pccpch_read(struct test *t) {
     t->got = slt_pccpch_read(digits(t, 0), n(t, 0), digits(t, 1), n(t, 1), digits(t, 2), n(t, 2));
 }
 
+static void hspdsch_map(struct test *t) {
+    t->got = slt_hspdsch_map(t->given[0], digits(t, 0), n(t, 0), digits(t, 1), n(t, 1), digits(t, 2), n(t, 2));
+}
+
+static void hspdsch_read(struct test *t) {
+    t->got = slt_hspdsch_read(t->given[0], digits(t, 0), n(t, 0), digits(t, 1), n(t, 1), digits(t, 2), n(t, 2));
+}
+
 static void aich_map(struct test *t) {
     t->got = slt_aich_map(values(t, 0), n(t, 0), values(t, 1), n(t, 1));
 }
@@ -141,6 +177,21 @@ static void aich_map_available(struct test *t) {
 
 static void aich_read_available(struct test *t) {
     t->got = slt_aich_read_available((uint16_t)t->given[0], values(t, 0), n(t, 0), values(t, 1), n(t, 1));
+}
+
+/* The run of the desk is told as it is to be afterwards: what it holds before the call is the first number. */
+static void desk_serve(struct test *t) {
+    size_t *last = (size_t *)(void *)t->run[0].lent;
+    *last = t->given[0];
+    t->got = slt_desk_serve(last, (uint16_t)t->given[1], (uint16_t)t->given[2], t->given[3], values(t, 1), n(t, 1));
+}
+
+static void desk_to_aich(struct test *t) {
+    t->got = slt_desk_to_aich(t->given[0]);
+}
+
+static void desk_to_message(struct test *t) {
+    t->got = slt_desk_to_message(t->given[0]);
 }
 
 static void aich_combine(struct test *t) {
@@ -164,12 +215,16 @@ const struct call calls[] = {
     {"slt_pich_q", 3, "", pich_q},
     {"slt_pich_map", 1, "11", pich_map},
     {"slt_pich_read", 1, "11", pich_read},
+    {"slt_wake_run", 5, "1444", wake_run},
+    {"slt_wake_step", 5, "14", wake_step},
     {"slt_slot_map", 3, "111", slot_map},
     {"slt_slot_read", 2, "111", slot_read},
     {"slt_slot_map_antenna", 4, "111", slot_map_antenna},
     {"slt_slot_read_antennas", 2, "1111", slot_read_antennas},
     {"slt_frame_map", 1, "1111", frame_map},
     {"slt_frame_read", 1, "1111", frame_read},
+    {"slt_compressed_map", 4, "1111", compressed_map},
+    {"slt_compressed_read", 4, "1111", compressed_read},
     {"slt_dpdch_map", 1, "11", dpdch_map},
     {"slt_dpdch_read", 1, "11", dpdch_read},
     {"slt_dpdch_frame_map", 1, "11", dpdch_frame_map},
@@ -182,10 +237,15 @@ const struct call calls[] = {
     {"slt_sttd_values", 0, "44", sttd_values},
     {"slt_pccpch_map", 0, "111", pccpch_map},
     {"slt_pccpch_read", 0, "111", pccpch_read},
+    {"slt_hspdsch_map", 1, "111", hspdsch_map},
+    {"slt_hspdsch_read", 1, "111", hspdsch_read},
     {"slt_aich_map", 0, "44", aich_map},
     {"slt_aich_read", 0, "44", aich_read},
     {"slt_aich_map_available", 1, "44", aich_map_available},
     {"slt_aich_read_available", 1, "44", aich_read_available},
+    {"slt_desk_serve", 4, "84", desk_serve},
+    {"slt_desk_to_aich", 1, "", desk_to_aich},
+    {"slt_desk_to_message", 1, "", desk_to_message},
     {"slt_aich_combine", 4, "48", aich_combine},
     {"slt_sample_off", 3, "", sample_off},
     {"slt_sample_shared", 4, "", sample_shared},

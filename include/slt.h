@@ -12,10 +12,14 @@
  *   - NULL is allowed only with length 0;
  *   - a run that is written does not overlap any other run of the call;
  *   - nobody else writes a run during the call.
+ * What is owed for the one pointer without a length, last of slt_desk_serve, is said there.
+ * For a pointer that comes without a length (the tally of the wake simulation): it is not NULL, it is aligned for its type, what it
+ * points to lies apart from every run of the call and from what every other such pointer points to, and nobody else reads or writes
+ * it during the call.
  *
  * What a caller gets: for all contents, lengths and numbers the call ends without undefined behaviour;
- * a refused call writes to no run. A digit is 0, 1, or 2 for DTX; any other byte is refused, never misread.
- * The calls keep no state and may be made from any thread.
+ * a refused call writes to no run (slt_wake_run alone leaves its tally as the frames before the refused one left it). A digit is 0, 1, or 2 for DTX; any other byte is refused, never misread.
+ * The calls keep no state (a desk is the caller's) and may be made from any thread.
  */
 #ifndef SLT_H
 #define SLT_H
@@ -33,7 +37,7 @@ extern "C" {
 
 /* The numbers of a refusal. */
 #define SLT_DONE 0u
-#define SLT_REFUSED_FORMAT 1u  /* a format that the channel's own table lacks: DPCH above 16, DPDCH above 6, DPCCH above 3 */
+#define SLT_REFUSED_FORMAT 1u  /* a format that the channel's own table lacks: DPCH above 16, DPDCH above 6, DPCCH above 3, HS-PDSCH above 1; of a compressed frame, a kind that it lacks */
 #define SLT_REFUSED_SLOT 2u    /* slot number above 14 */
 #define SLT_REFUSED_LENGTH 3u  /* a lent run has the wrong length; the place says which run */
 #define SLT_REFUSED_DIGIT 4u   /* digit not allowed */
@@ -41,7 +45,7 @@ extern "C" {
 #define SLT_REFUSED_TFCI 6u    /* TFCI digits mixed, some bits and some DTX; no call of the uplink gives it */
 #define SLT_REFUSED_PILOT 7u   /* pilot differs from the table */
 #define SLT_REFUSED_NP 8u      /* Np not 18, 36, 72, 144 */
-#define SLT_REFUSED_FRAME 9u   /* PICH or P-CCPCH frame, or second stream of a DPCH slot, that no fields give */
+#define SLT_REFUSED_FRAME 9u   /* PICH or P-CCPCH frame, second stream of a DPCH slot or HS-PDSCH subframe, or missing slot of a compressed frame, that no fields give */
 #define SLT_REFUSED_VALUES 10u /* AICH values that no indicators give */
 #define SLT_REFUSED_RANGE 11u  /* a number outside its range */
 #define SLT_REFUSED_GAINS 12u  /* both gains zero */
@@ -57,6 +61,12 @@ extern "C" {
 /* Of the calls under a set of available signatures. */
 #define SLT_REFUSED_SIGNATURE 26u /* a nonzero indicator of a signature that is not available; the place is the lowest */
 
+/* Of compressed frames. */
+#define SLT_REFUSED_GAP 27u /* a gap that leaves too few or too many slots of a compressed frame, or runs past slot 14 */
+
+/* Of the wake simulation. */
+#define SLT_REFUSED_COUNT 32u /* frames read or frames that woke stand at 4294967295 */
+
 /* PICH (TS 25.211, 5.3.3.10). np is 18, 36, 72 or 144. */
 
 /* The paging indicator q of a higher-layer PI (0 to np - 1) in the frame of an SFN (0 to 4095), as the value. */
@@ -67,6 +77,22 @@ uint64_t slt_pich_map(size_t np, const uint8_t *indicators, size_t n_indicators,
 
 /* The np indicators of a frame of 300 digits. */
 uint64_t slt_pich_read(size_t np, const uint8_t *frame, size_t n_frame, uint8_t *indicators, size_t n_indicators);
+
+/* Wake simulation: when the handset with a PI (0 to np - 1) would wake to recorded PICH frames, one after the other in one run of 300
+ * digits each. At each frame q is worked out for the next SFN, the indicator there is read, and the tally moves on: frames read,
+ * frames that woke the handset (its indicator is 1), the SFN of the next frame (0 to 4095; 4095 is followed by 0). */
+typedef struct {
+    uint32_t read;
+    uint32_t woke;
+    uint32_t next_sfn;
+} slt_tally;
+
+/* All frames, n digits of them, 0 included. A run stops at the first frame that is refused, and the three numbers are as the frames
+ * before it left them: how far *read went up tells which frame it was. The place is within that frame. */
+uint64_t slt_wake_run(size_t np, size_t pi, const uint8_t *frames, size_t n, uint32_t *read, uint32_t *woke, uint32_t *next_sfn);
+
+/* One frame; n is 300. A refused step leaves the tally as it was. */
+uint64_t slt_wake_step(slt_tally *tally, size_t np, size_t pi, const uint8_t *frame, size_t n);
 
 /* Downlink DPCH slots (TS 25.211, 5.3.2), normal formats 0 to 16, slots 0 to 14. Field order: Data1, TPC, TFCI, Data2, pilot.
  * A slot's TFCI digits are all bits or all DTX (2), in every format that has some. */
@@ -95,6 +121,15 @@ uint64_t slt_frame_map(size_t format, const uint8_t *data, size_t n_data, const 
                        size_t n_out, const uint8_t *commands, size_t n_commands);
 uint64_t slt_frame_read(size_t format, const uint8_t *frame, size_t n_frame, uint8_t *data, size_t n_data, uint8_t *tfci,
                         size_t n_tfci, uint8_t *commands, size_t n_commands);
+
+/* Compressed downlink DPCH frames (TS 25.211, 5.3.2, formats A and B): kind 1 is A, kind 2 is B. Slots first to first + missing - 1
+ * are missing, all DTX; 8 to 14 slots are transmitted. Data, TFCI and commands have the transmitted slots only, one after the other;
+ * the frame has all fifteen. Order of runs for refusal 3: map data, TFCI, output, commands; read frame, data, TFCI, commands. */
+uint64_t slt_compressed_map(size_t format, size_t kind, size_t first, size_t missing, const uint8_t *data, size_t n_data,
+                            const uint8_t *tfci, size_t n_tfci, uint8_t *out, size_t n_out, const uint8_t *commands,
+                            size_t n_commands);
+uint64_t slt_compressed_read(size_t format, size_t kind, size_t first, size_t missing, const uint8_t *frame, size_t n_frame,
+                             uint8_t *data, size_t n_data, uint8_t *tfci, size_t n_tfci, uint8_t *commands, size_t n_commands);
 
 /* Uplink DPDCH (TS 25.211, 5.2.1.1), formats 0 to 6: a slot is 10, 20, 40, 80, 160, 320 or 640 data digits, each 0 or 1, and a frame
  * is fifteen slots. No slot number is needed. Order of runs for refusal 3: map data, output; read slot or frame, data. */
@@ -133,6 +168,13 @@ uint64_t slt_pccpch_map(const uint8_t *data, size_t n_data, uint8_t *antenna1, s
 uint64_t slt_pccpch_read(const uint8_t *antenna1, size_t n_antenna1, const uint8_t *antenna2, size_t n_antenna2, uint8_t *data,
                          size_t n_data);
 
+/* HS-PDSCH (TS 25.211, 5.3.3.13): formats 0, QPSK, and 1, 16QAM; data, 0 or 1, and a subframe of three slots for each antenna, 960 digits
+ * each in format 0 and 1920 in format 1. In reading, antenna 2's places start at that length. */
+uint64_t slt_hspdsch_map(size_t format, const uint8_t *data, size_t n_data, uint8_t *antenna1, size_t n_antenna1, uint8_t *antenna2,
+                         size_t n_antenna2);
+uint64_t slt_hspdsch_read(size_t format, const uint8_t *antenna1, size_t n_antenna1, const uint8_t *antenna2, size_t n_antenna2,
+                          uint8_t *data, size_t n_data);
+
 /* AICH (TS 25.211, 5.3.3.7): 16 indicators -1, 0, +1 and 32 values. */
 uint64_t slt_aich_map(const int32_t *indicators, size_t n_indicators, int32_t *values, size_t n_values);
 uint64_t slt_aich_read(const int32_t *values, size_t n_values, int32_t *indicators, size_t n_indicators);
@@ -142,6 +184,20 @@ uint64_t slt_aich_map_available(uint16_t available, const int32_t *indicators, s
                                 size_t n_values);
 uint64_t slt_aich_read_available(uint16_t available, const int32_t *values, size_t n_values, int32_t *indicators,
                                  size_t n_indicators);
+
+/* The random access desk (TS 25.211, 5.3.3.7 and 7.3): who is answered in an access slot, and how many chips later.
+ *
+ * A desk is one number, the signature that was served last; a fresh one is SLT_DESK_FRESH. Both sets have bit s for signature s.
+ * Signatures that are heard and available get +1, up to n of them (1 to 16) in circular order from just after *last, and -1 behind
+ * those; all others get 0. The 32 values are those of these indicators, all 0 where nobody is served. Where somebody is, *last
+ * becomes the last one; else, and where the call is refused, it stays. last has no length: it is not NULL, is aligned for a
+ * size_t, points at one that lies apart from the values, and nobody else reads or writes it during the call. */
+#define SLT_DESK_FRESH 15u
+uint64_t slt_desk_serve(size_t *last, uint16_t heard, uint16_t available, size_t n, int32_t *values, size_t n_values);
+
+/* Chips from a preamble to its indicator and to the message, as the value, for AICH_Transmission_Timing 0 and 1. */
+uint64_t slt_desk_to_aich(size_t timing);
+uint64_t slt_desk_to_message(size_t timing);
 
 /* The AICH of two antennas combined: gain parts -4096 to 4096, 32 received parts -1048576 to 1048576 (real and imaginary in turn),
  * one result for each of the 16 signatures. */

@@ -7,6 +7,7 @@
 
 use crate::answer::Answer;
 use crate::lent::Lent;
+use crate::rules::compressed::Frame;
 
 // PICH
 
@@ -31,6 +32,40 @@ pub fn pich_read(np: usize, frame: &mut Lent<u8>, indicators: &mut Lent<u8>) -> 
     Answer::unpack(unsafe {
         slt_pich_read(np, frame.pointer(), frame.len(), indicators.pointer(), indicators.len())
     })
+}
+
+// Wake simulation
+
+/// `slt_tally` of `include/slt.h`.
+#[repr(C)]
+#[derive(Clone, Copy)]
+struct SltTally {
+    read: u32,
+    woke: u32,
+    next_sfn: u32,
+}
+
+unsafe extern "C" {
+    fn slt_wake_run(
+        np: usize, pi: usize, frames: *const u8, n: usize, read: *mut u32, woke: *mut u32, next_sfn: *mut u32,
+    ) -> u64;
+    fn slt_wake_step(tally: *mut SltTally, np: usize, pi: usize, frame: *const u8, n: usize) -> u64;
+}
+
+/// Each of the three numbers is a run of one.
+pub fn wake_run(np: usize, pi: usize, frames: &mut Lent<u8>, [read, woke, next_sfn]: [&mut Lent<u32>; 3]) -> Answer {
+    assert!(read.len() == 1 && woke.len() == 1 && next_sfn.len() == 1, "a tally is three numbers");
+    let n = frames.len();
+    Answer::unpack(unsafe {
+        slt_wake_run(np, pi, frames.pointer(), n, read.pointer(), woke.pointer(), next_sfn.pointer())
+    })
+}
+
+/// The tally is a run of three numbers, which is what the struct is in memory.
+pub fn wake_step(tally: &mut Lent<u32>, np: usize, pi: usize, frame: &mut Lent<u8>) -> Answer {
+    assert_eq!((tally.len(), size_of::<SltTally>()), (3, 12), "a tally is three numbers");
+    let n = frame.len();
+    Answer::unpack(unsafe { slt_wake_step(tally.pointer().cast(), np, pi, frame.pointer(), n) })
 }
 
 // DPCH slot
@@ -134,6 +169,43 @@ pub fn frame_read(
         slt_frame_read(
             format, frame.pointer(), n_frame, data.pointer(), n_data, tfci.pointer(), n_tfci, commands.pointer(),
             n_commands,
+        )
+    })
+}
+
+// Compressed DPCH frame
+
+unsafe extern "C" {
+    fn slt_compressed_map(
+        format: usize, kind: usize, first: usize, missing: usize, data: *const u8, n_data: usize, tfci: *const u8,
+        n_tfci: usize, out: *mut u8, n_out: usize, commands: *const u8, n_commands: usize,
+    ) -> u64;
+    fn slt_compressed_read(
+        format: usize, kind: usize, first: usize, missing: usize, frame: *const u8, n_frame: usize, data: *mut u8,
+        n_data: usize, tfci: *mut u8, n_tfci: usize, commands: *mut u8, n_commands: usize,
+    ) -> u64;
+}
+
+pub fn compressed_map(
+    of: Frame, data: &mut Lent<u8>, tfci: &mut Lent<u8>, out: &mut Lent<u8>, commands: &mut Lent<u8>,
+) -> Answer {
+    let (n_data, n_tfci, n_out, n_commands) = (data.len(), tfci.len(), out.len(), commands.len());
+    Answer::unpack(unsafe {
+        slt_compressed_map(
+            of.format, of.kind, of.first, of.missing, data.pointer(), n_data, tfci.pointer(), n_tfci, out.pointer(),
+            n_out, commands.pointer(), n_commands,
+        )
+    })
+}
+
+pub fn compressed_read(
+    of: Frame, frame: &mut Lent<u8>, data: &mut Lent<u8>, tfci: &mut Lent<u8>, commands: &mut Lent<u8>,
+) -> Answer {
+    let (n_frame, n_data, n_tfci, n_commands) = (frame.len(), data.len(), tfci.len(), commands.len());
+    Answer::unpack(unsafe {
+        slt_compressed_read(
+            of.format, of.kind, of.first, of.missing, frame.pointer(), n_frame, data.pointer(), n_data,
+            tfci.pointer(), n_tfci, commands.pointer(), n_commands,
         )
     })
 }
@@ -269,6 +341,31 @@ pub fn pccpch_read(antenna1: &mut Lent<u8>, antenna2: &mut Lent<u8>, data: &mut 
     })
 }
 
+// HS-PDSCH
+
+unsafe extern "C" {
+    fn slt_hspdsch_map(
+        format: usize, data: *const u8, n_data: usize, antenna1: *mut u8, n1: usize, antenna2: *mut u8, n2: usize,
+    ) -> u64;
+    fn slt_hspdsch_read(
+        format: usize, antenna1: *const u8, n1: usize, antenna2: *const u8, n2: usize, data: *mut u8, n_data: usize,
+    ) -> u64;
+}
+
+pub fn hspdsch_map(format: usize, data: &mut Lent<u8>, antenna1: &mut Lent<u8>, antenna2: &mut Lent<u8>) -> Answer {
+    let (n_data, n1, n2) = (data.len(), antenna1.len(), antenna2.len());
+    Answer::unpack(unsafe {
+        slt_hspdsch_map(format, data.pointer(), n_data, antenna1.pointer(), n1, antenna2.pointer(), n2)
+    })
+}
+
+pub fn hspdsch_read(format: usize, antenna1: &mut Lent<u8>, antenna2: &mut Lent<u8>, data: &mut Lent<u8>) -> Answer {
+    let (n1, n2, n_data) = (antenna1.len(), antenna2.len(), data.len());
+    Answer::unpack(unsafe {
+        slt_hspdsch_read(format, antenna1.pointer(), n1, antenna2.pointer(), n2, data.pointer(), n_data)
+    })
+}
+
 // AICH
 
 unsafe extern "C" {
@@ -309,6 +406,29 @@ pub fn aich_read_available(available: u16, values: &mut Lent<i32>, indicators: &
     Answer::unpack(unsafe {
         slt_aich_read_available(available, values.pointer(), n_values, indicators.pointer(), n_indicators)
     })
+}
+
+// Random access desk
+
+unsafe extern "C" {
+    fn slt_desk_serve(last: *mut usize, heard: u16, available: u16, n: usize, values: *mut i32, n_values: usize) -> u64;
+    fn slt_desk_to_aich(timing: usize) -> u64;
+    fn slt_desk_to_message(timing: usize) -> u64;
+}
+
+/// The desk is a run of one number.
+pub fn desk_serve(last: &mut Lent<usize>, heard: u16, available: u16, n: usize, values: &mut Lent<i32>) -> Answer {
+    assert_eq!(last.len(), 1, "a desk is one number");
+    let n_values = values.len();
+    Answer::unpack(unsafe { slt_desk_serve(last.pointer(), heard, available, n, values.pointer(), n_values) })
+}
+
+pub fn desk_to_aich(timing: usize) -> Answer {
+    Answer::unpack(unsafe { slt_desk_to_aich(timing) })
+}
+
+pub fn desk_to_message(timing: usize) -> Answer {
+    Answer::unpack(unsafe { slt_desk_to_message(timing) })
 }
 
 // AICH combiner

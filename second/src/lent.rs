@@ -34,10 +34,24 @@ impl Element for i32 {
     }
 }
 
+impl Element for u32 {
+    /// Far beyond every SFN, and not where a count ends.
+    fn pattern(salt: u64, index: usize) -> u32 {
+        0x5a5a_5a00 | five_bits(salt, index) as u32
+    }
+}
+
 impl Element for i64 {
     /// Far beyond every result of the combiner.
     fn pattern(salt: u64, index: usize) -> i64 {
         0x5a5a_5a5a_5a5a_5a00 | five_bits(salt, index) as i64
+    }
+}
+
+impl Element for usize {
+    /// Far beyond every signature.
+    fn pattern(salt: u64, index: usize) -> usize {
+        0x5a5a_5a00 | five_bits(salt, index) as usize
     }
 }
 

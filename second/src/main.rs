@@ -27,15 +27,19 @@ type Channel = (&'static str, fn(&mut Judge));
 
 const CHANNELS: &[Channel] = &[
     ("pich", compare::pich::all),
+    ("wake", compare::wake::all),
     ("dpch", compare::dpch::all),
     ("antenna", compare::antenna::all),
     ("frame", compare::frame::all),
+    ("compressed", compare::compressed::all),
     ("dpdch", compare::dpdch::all),
     ("dpcch", compare::dpcch::all),
     ("sttd", compare::sttd::all),
     ("pccpch", compare::pccpch::all),
+    ("hspdsch", compare::hspdsch::all),
     ("aich", compare::aich::all),
     ("aich_available", compare::aich_available::all),
+    ("desk", compare::desk::all),
     ("combiner", compare::combiner::all),
     ("sample", compare::sample::all),
 ];

@@ -146,11 +146,11 @@ module _ (format slot : ℕ) (first second : List ℕ) where
         agrees = diff-none _ _ _ e;
       })
 
-  pub body-by : (b : Bool) → b ≡ eqb (base.partVerdict format slot first 0 .number) 0 → b ≡ true → length first ≡ formatOf format .slot → length second ≡ formatOf format .slot
+  pub body-by : (b : Bool) → b ≡ eqb (base.partVerdict (formatOf format) slot first 0 .number) 0 → b ≡ true → length first ≡ formatOf format .slot → length second ≡ formatOf format .slot
       → Every (agree (secondOf format slot first) second) (formatOf format .slot) → readBody format slot first second ≡ done
   body-by b e t long long2 all =
-      let z : base.partVerdict format slot first 0 .number ≡ 0 = eqb-true _ _ (sym e ∙ t) in
-      let k = digits-ok (formatOf format) slot first 0 (rw (part-whole format slot first 0 long) at z) in
+      let z : base.partVerdict (formatOf format) slot first 0 .number ≡ 0 = eqb-true _ _ (sym e ∙ t) in
+      let k = digits-ok (formatOf format) slot first 0 (rw (part-whole (formatOf format) slot first 0 long) at z) in
       let n = second-length format slot first long in
       body-given k long (no-diff (secondOf format slot first) second (n ∙ sym long2) (rw (sym n) at all))
 

@@ -27,9 +27,10 @@ use Rattle.dpch.proofs.Heads.{slot-head-narrow}
 use Rattle.slot.specs.Rule.{dataSize, slotOf, commandIn}
 use Rattle.slot.specs.Outcome as base
 use Rattle.slot.specs.Exact as base-exact
-use Rattle.slot.proofs.Laws.{sound-format, sum, slot-length, data-small, tfci-small}
+use Rattle.slot.proofs.Laws.{sound-format, normal-row, sum, slot-length, data-small, tfci-small}
 use Rattle.slot.proofs.Accept as base-accept
 use Rattle.slot.proofs.Exact as base-proofs
+use Rattle.slot.proofs.Rows.{command-bit, digits-narrow}
 use Rattle.sttd.specs.Rule.{sttd, barDigit, digitValue}
 use Rattle.sttd.proofs.Laws.{block}
 use Rattle.sttd.proofs.Antenna2.{both-bars, zero-product}
@@ -303,8 +304,8 @@ map-narrow format slot antenna tpc d tfci outLength =
     let right = lengths-done _ (four-done _ _ _ _ e .fourth) in
     let p : length d ≡ dataSize (formatOf format) = eqb-true _ _ (right 0 (lit< tt)) in
     let q : length tfci ≡ formatOf format .tfci = eqb-true _ _ (right 1 (lit< tt)) in
-    let n = data-small format in
-    let t = tfci-small format in
+    let n = data-small (formatOf format) (sound-format format) in
+    let t = tfci-small (formatOf format) (sound-format format) in
     base-proofs.fields-narrow tpc d tfci 0 0 0 (lit< tt) (omega arith) (omega arith))
 
 read-narrow : (format slot : ℕ) (first second : List ℕ) (dataLength tfciLength : ℕ) → Narrow (readVerdict format slot first second dataLength tfciLength)
@@ -318,7 +319,7 @@ read-narrow format slot first second dataLength tfciLength =
     let short = sound-format format .short in
     or-else-narrow _ _ (each-narrow 0 4 _ _ (lit< tt) (omega arith))
     (λ _. or-else-narrow _ _ (each-narrow _ 4 _ _ (lit< tt) (omega arith))
-    (λ _. or-else-narrow _ _ (base-proofs.digits-narrow format slot first 0 a (omega arith))
+    (λ _. or-else-narrow _ _ (digits-narrow (formatOf format) (sound-format format) slot first 0 a (omega arith))
     (λ _. each-narrow _ 9 _ _ (lit< tt) (omega arith)))))
 
 pub command-fits : (format slot : ℕ) (first second : List ℕ) (dataLength tfciLength : ℕ)
@@ -327,7 +328,7 @@ command-fits format slot first second dataLength tfciLength =
     leaves-small _ _ 65536
     (λ z.
     let a = accepted format slot first second dataLength tfciLength z in
-    let bit = base-proofs.command-bit format slot first (a .body .digits) (a .head .format-ok) (a .head .slot-ok) (a .head .first-ok) in
+    let bit = command-bit (formatOf format) (normal-row format (a .head .format-ok)) slot first (a .body .digits) (a .head .first-ok) in
     omega arith)
     (lit< tt)
 

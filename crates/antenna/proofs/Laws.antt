@@ -20,7 +20,7 @@ use Rattle.run.proofs.First.{every-by}
 use Rattle.run.proofs.Front.{Front, front-none, front-part, front-lent, front-all}
 use Rattle.run.proofs.Each.{Each, each-take, each-drop, each-joined}
 use Rattle.run.proofs.Stretch.{field-copied, joined-at}
-use Rattle.dpch.specs.Formats.{row, formats, formatOf}
+use Rattle.dpch.specs.Formats.{noRow, formats, formatOf}
 use Rattle.dpch.specs.SecondPilots.{secondPilot, secondSource}
 use Rattle.dpch.proofs.Exact.{format-second-pilots}
 use Rattle.slot.proofs.Laws.{sound-format, sum, start-pilot}
@@ -55,7 +55,7 @@ wide format h = lt-leb format 1 (omega arith)
 
 past-test : (format : ℕ) → 17 ≤ format → blocks-test format ≡ true
 unfolding blocks-test codedFrom codedTo formats formatOf start total
-past-test format h = rw (List·getD-eq-default formats (row 0 0 0 0 0 0) h, wide format (omega arith))
+past-test format h = rw (List·getD-eq-default formats noRow h, wide format (omega arith))
 
 tested : (format : ℕ) → blocks-test format ≡ true
 tested format = side (ltb format 17) refl

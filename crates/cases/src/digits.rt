@@ -41,6 +41,19 @@ fn frame_map(line: &[u8], out: &mut [u8]) -> Verdict {
     )
 }
 
+fn compressed_map(line: &[u8], out: &mut [u8]) -> Verdict {
+    compressed_map::map(
+        number(line, 1),
+        number(line, 2),
+        number(line, 3),
+        number(line, 4),
+        run(line, 7),
+        run(line, 6),
+        out,
+        run(line, 5),
+    )
+}
+
 fn pccpch_read(line: &[u8], data: &mut [u8]) -> Verdict {
     pccpch_read::read(run(line, 1), run(line, 2), data)
 }
@@ -63,6 +76,7 @@ fn write_one(call: usize, line: &[u8], out: &mut [u8]) -> Verdict {
         question::PICH_MAP => pich_map(line, out),
         question::PICH_READ => pich_read(line, out),
         question::DPDCH_MAP..=question::DPCCH_FRAME_MAP => uplink::write_one(call, line, out),
+        question::COMPRESSED_MAP => compressed_map(line, out),
         _ => sttd::digits(run(line, 1), out),
     }
 }
@@ -96,6 +110,19 @@ fn frame_read(line: &[u8], commands: &mut [u8], tfci: &mut [u8], data: &mut [u8]
     answer::verdict(frame_read::read(number(line, 1), run(line, 2), data, tfci, commands));
 }
 
+fn compressed_read(line: &[u8], commands: &mut [u8], tfci: &mut [u8], data: &mut [u8]) {
+    answer::verdict(compressed_read::read(
+        number(line, 1),
+        number(line, 2),
+        number(line, 3),
+        number(line, 4),
+        run(line, 5),
+        data,
+        tfci,
+        commands,
+    ));
+}
+
 // The call with the runs that it is lent, which are the question's last ones.
 fn write(call: usize, line: &[u8], first: &mut [u8], second: &mut [u8], third: &mut [u8]) {
     match call {
@@ -105,6 +132,7 @@ fn write(call: usize, line: &[u8], first: &mut [u8], second: &mut [u8], third: &
         question::DPCCH_READ => uplink::read(line, second, third),
         question::FRAME_READ => frame_read(line, first, second, third),
         question::DPCCH_FRAME_READ => uplink::frame_read(line, first, second, third),
+        question::COMPRESSED_READ => compressed_read(line, first, second, third),
         _ => answer::verdict(write_one(call, line, third)),
     }
 }

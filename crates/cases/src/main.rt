@@ -4,23 +4,31 @@
 //
 // The names say where a case is from: P1 to P12 are the marked examples, `other` the other examples, `refusal N` a row of the table of
 // numbers, `slip` a slip that has been seen, `done` any other call that is done.
+mod access;
 mod answer;
 mod digits;
+mod hspdsch;
 mod jobs;
 mod question;
 mod samples;
 mod uplink;
 mod values;
+mod wakes;
 
 use libc::STDIN_FILENO;
 
 fn ask(call: usize, line: &[u8]) {
     match call {
-        question::SLOT_MAP..=question::DPCCH_FRAME_READ => digits::lend(call, line),
+        question::SLOT_MAP..=question::COMPRESSED_READ => digits::lend(call, line),
         question::PICH_Q => digits::q(line),
         question::AICH_MAP..=question::STTD_VALUES => values::lend(call, line),
         question::AICH_COMBINE => values::lend_results(line),
         question::SAMPLE => samples::take(line),
+        question::HSPDSCH_MAP..=question::HSPDSCH_READ => hspdsch::lend(call, line),
+        question::DESK_SERVE => access::serve(line),
+        question::DESK_TO_AICH => access::to_aich(line),
+        question::DESK_TO_MESSAGE => access::to_message(line),
+        question::WAKE_RUN..=question::WAKE_STEP => wakes::ask(call, line),
         _ => answer::text(b" -> no such call"),
     }
 }

@@ -11,7 +11,7 @@ ghost use mathlib.Core.Path.{_≡_};
 ghost use lib.ListN.{length, take};
 ghost use Rattle.io.specs.Counts.{Counts};
 
-// The calls, in the order in which `call` lists their words: those that are lent one run of digits, of which 12, STTD, has no name here since it is told as the
+// The calls, in the order in which `call` lists their words: those that are lent one run of digits, of which 13, STTD, has no name here since it is told as the
 // rest; those that are lent two, those that are lent three; then the calls of other kinds.
 pub(crate) const SLOT_MAP: usize = 0;
 
@@ -37,37 +37,55 @@ pub(crate) const DPCCH_MAP: usize = 10;
 
 pub(crate) const DPCCH_FRAME_MAP: usize = 11;
 
-pub(crate) const SLOT_READ: usize = 13;
+pub(crate) const COMPRESSED_MAP: usize = 12;
 
-pub(crate) const ANTENNAS_READ: usize = 14;
+pub(crate) const SLOT_READ: usize = 14;
 
-pub(crate) const PCCPCH_MAP: usize = 15;
+pub(crate) const ANTENNAS_READ: usize = 15;
 
-pub(crate) const DPCCH_READ: usize = 16;
+pub(crate) const PCCPCH_MAP: usize = 16;
 
-pub(crate) const FRAME_READ: usize = 17;
+pub(crate) const DPCCH_READ: usize = 17;
 
-pub(crate) const DPCCH_FRAME_READ: usize = 18;
+pub(crate) const FRAME_READ: usize = 18;
 
-pub(crate) const PICH_Q: usize = 19;
+pub(crate) const DPCCH_FRAME_READ: usize = 19;
 
-pub(crate) const AICH_MAP: usize = 20;
+pub(crate) const COMPRESSED_READ: usize = 20;
 
-pub(crate) const AICH_READ: usize = 21;
+pub(crate) const PICH_Q: usize = 21;
 
-pub(crate) const AICH_MAP_AVAILABLE: usize = 22;
+pub(crate) const AICH_MAP: usize = 22;
 
-pub(crate) const AICH_READ_AVAILABLE: usize = 23;
+pub(crate) const AICH_READ: usize = 23;
 
-pub(crate) const STTD_VALUES: usize = 24;
+pub(crate) const AICH_MAP_AVAILABLE: usize = 24;
 
-pub(crate) const AICH_COMBINE: usize = 25;
+pub(crate) const AICH_READ_AVAILABLE: usize = 25;
 
-pub(crate) const SAMPLE: usize = 26;
+pub(crate) const STTD_VALUES: usize = 26;
 
-pub(crate) const JOB: usize = 27;
+pub(crate) const AICH_COMBINE: usize = 27;
 
-pub(crate) const NONE: usize = 28;
+pub(crate) const SAMPLE: usize = 28;
+
+pub(crate) const JOB: usize = 29;
+
+pub(crate) const HSPDSCH_MAP: usize = 30;
+
+pub(crate) const HSPDSCH_READ: usize = 31;
+
+pub(crate) const DESK_SERVE: usize = 32;
+
+pub(crate) const DESK_TO_AICH: usize = 33;
+
+pub(crate) const DESK_TO_MESSAGE: usize = 34;
+
+pub(crate) const WAKE_RUN: usize = 35;
+
+pub(crate) const WAKE_STEP: usize = 36;
+
+pub(crate) const NONE: usize = 37;
 
 // How many digits and how many whole numbers a run has at most.
 pub(crate) const DIGITS: usize = 300;
@@ -126,7 +144,7 @@ pub(crate) fn call(line: &[u8]) -> usize {
     let mut k = 0;
     while k < NONE {
         let name = piece(
-            b" slot map , antenna map , frame map , P-CCPCH read , PICH map , PICH read , DPDCH map , DPDCH read , DPDCH frame map , DPDCH frame read , DPCCH map , DPCCH frame map , STTD digits , slot read , antennas read , P-CCPCH map , DPCCH read , frame read , DPCCH frame read , PICH q , AICH map , AICH read , AICH available map , AICH available read , STTD values , AICH combine , sample , job ",
+            b" slot map , antenna map , frame map , P-CCPCH read , PICH map , PICH read , DPDCH map , DPDCH read , DPDCH frame map , DPDCH frame read , DPCCH map , DPCCH frame map , compressed map , STTD digits , slot read , antennas read , P-CCPCH map , DPCCH read , frame read , DPCCH frame read , compressed read , PICH q , AICH map , AICH read , AICH available map , AICH available read , STTD values , AICH combine , sample , job , HS-PDSCH map , HS-PDSCH read , desk serve , desk to AICH , desk to message , wake run , wake step ",
             b',',
             k,
         );
@@ -182,6 +200,22 @@ pub(crate) fn read(text: &[u8], hex: bool) -> usize
 
 pub(crate) fn number(line: &[u8], k: usize) -> usize {
     read(run(line, k), false)
+}
+
+// A number of 32 bits: what is above them is cut off.
+fn cut(text: &[u8]) -> u32 {
+    let mut n = 0u32;
+    let mut i = 0;
+    while i < text.len() {
+        let wide = n as usize * 10 + figure(text[i]);
+        n = (wide % 4294967296) as u32;
+        i += 1;
+    }
+    n
+}
+
+pub(crate) fn word(line: &[u8], k: usize) -> u32 {
+    cut(run(line, k))
 }
 
 // The k-th whole number of a run.

@@ -19,7 +19,7 @@ use Rattle.run.proofs.Each.{each-same, each-joined, all-first, same-alike}
 use Rattle.run.proofs.Chain.{or-else-pass, or-else-narrow, check-narrow, each-narrow, chain-pass, chain-narrow, leaves-small, one-outcome, number-0}
 use Rattle.run.proofs.Fields.{joined-cut, cut-joined}
 use Rattle.run.proofs.Frames as frames
-use Rattle.run.proofs.Frames.{Codec}
+use Rattle.run.proofs.Frames.{Codec, all-slots, none-silent}
 use Rattle.run.proofs.Never.{or-else-never, unless-never, each-never, chain-never}
 use Rattle.run.proofs.Parts.{part-room, part-length}
 use Rattle.run.proofs.Stretch.{joined-at, each-field}
@@ -202,12 +202,12 @@ module _ (format : ℕ) (format-ok : format ≤ 3) where
 module _ (format : ℕ) (xs : List ℕ) (a : FrameAccepted format xs (15 * dpcchFormat format .tfci) (15 * dpcchFormat format .fbi) 15) where
   frame-gives : frameOf (dpcchFormat format) (frameTfciIn (dpcchFormat format) xs) (frameFbiIn (dpcchFormat format) xs) (commandsIn (dpcchFormat format) xs) ≡ xs
   unfolding frameOf frameTfciIn frameFbiIn commandsIn shape codec
-  frame-gives = frames.frame-gives (shape format) (codec format (a .room .format-ok)) xs (a .room .frame-ok) (a .slots)
+  frame-gives = frames.frame-gives (shape format) all-slots (codec format (a .room .format-ok)) xs (a .room .frame-ok) (λ k h e. a .slots k h) (λ k h e. none-silent e)
 
   frame-fits : (k : ℕ) → k < 15
       → FieldsOk (getD (commandsIn (dpcchFormat format) xs) k 0) (part k (dpcchFormat format .tfci) (frameTfciIn (dpcchFormat format) xs)) (part k (dpcchFormat format .fbi) (frameFbiIn (dpcchFormat format) xs))
   unfolding frameTfciIn frameFbiIn commandsIn shape codec
-  frame-fits = frames.frame-fits (shape format) (codec format (a .room .format-ok)) xs (a .room .frame-ok) (a .slots)
+  frame-fits = frames.frame-fits (shape format) all-slots (codec format (a .room .format-ok)) xs (a .room .frame-ok) (λ k h e. a .slots k h)
 
   frame-maps : frameMapVerdict format (frameTfciIn (dpcchFormat format) xs) (frameFbiIn (dpcchFormat format) xs) (15 * dpcchFormat format .slot) (commandsIn (dpcchFormat format) xs) ≡ done
   unfolding frameMapVerdict
@@ -228,7 +228,7 @@ module _ (format : ℕ) (tfci fbi commands : List ℕ) (m : FrameMapped format t
 
   frame-good : (k : ℕ) → k < 15 → DigitsOk (dpcchFormat format) k (part k (dpcchFormat format .slot) (frameOf (dpcchFormat format) tfci fbi commands))
   unfolding frameOf shape codec
-  frame-good = frames.frame-good (shape format) (codec format (m .room .format-ok)) tfci fbi commands (f-ok .tfci-ok) (f-ok .fbi-ok) (m .slots)
+  frame-good k h = frames.frame-good (shape format) all-slots (codec format (m .room .format-ok)) tfci fbi commands (f-ok .tfci-ok) (f-ok .fbi-ok) (m .slots) k h refl
 
   frame-accepts : frameReadVerdict format (frameOf (dpcchFormat format) tfci fbi commands) (15 * dpcchFormat format .tfci) (15 * dpcchFormat format .fbi) 15 ≡ done
   unfolding frameReadVerdict
@@ -244,15 +244,15 @@ module _ (format : ℕ) (tfci fbi commands : List ℕ) (m : FrameMapped format t
 
   tfcis-back : frameTfciIn (dpcchFormat format) (frameOf (dpcchFormat format) tfci fbi commands) ≡ tfci
   unfolding frameOf frameTfciIn shape codec
-  tfcis-back = frames.firsts-back (shape format) (codec format (m .room .format-ok)) tfci fbi commands (f-ok .tfci-ok) (f-ok .fbi-ok) (m .slots)
+  tfcis-back = frames.firsts-back (shape format) all-slots (codec format (m .room .format-ok)) tfci fbi commands (f-ok .tfci-ok) (f-ok .fbi-ok) (m .slots)
 
   fbis-back : frameFbiIn (dpcchFormat format) (frameOf (dpcchFormat format) tfci fbi commands) ≡ fbi
   unfolding frameOf frameFbiIn shape codec
-  fbis-back = frames.seconds-back (shape format) (codec format (m .room .format-ok)) tfci fbi commands (f-ok .tfci-ok) (f-ok .fbi-ok) (m .slots)
+  fbis-back = frames.seconds-back (shape format) all-slots (codec format (m .room .format-ok)) tfci fbi commands (f-ok .tfci-ok) (f-ok .fbi-ok) (m .slots)
 
   commands-back : commandsIn (dpcchFormat format) (frameOf (dpcchFormat format) tfci fbi commands) ≡ commands
   unfolding frameOf commandsIn shape codec
-  commands-back = frames.commands-back (shape format) (codec format (m .room .format-ok)) tfci fbi commands (f-ok .tfci-ok) (f-ok .fbi-ok) (m .slots) (f-ok .commands-ok)
+  commands-back = frames.commands-back (shape format) all-slots (codec format (m .room .format-ok)) tfci fbi commands (f-ok .tfci-ok) (f-ok .fbi-ok) (m .slots) (f-ok .commands-ok)
 
 pub frame-read-exact : FrameReadExact
 frame-read-exact format xs format-ok long =

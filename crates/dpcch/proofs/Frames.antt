@@ -14,7 +14,7 @@ use Rattle.run.specs.Parts.{part}
 use Rattle.run.specs.Verdicts.{done, chain}
 use Rattle.run.proofs.Chain.{chain-pass}
 use Rattle.run.proofs.Frames as frames
-use Rattle.run.proofs.Frames.{Shape, lent-is, lent-part, lent-length, sized}
+use Rattle.run.proofs.Frames.{Shape, all-slots, lent-is, lent-part, lent-length, sized}
 use Rattle.run.proofs.Front.{Front}
 use Rattle.run.proofs.Parts.{part-room, part-length, part-at}
 use Rattle.dpch.specs.Uplink.{dpcchFormat}
@@ -80,11 +80,11 @@ shape format =
 module _ (format : ℕ) (tfci fbi commands : List ℕ) (tfci-ok : length tfci ≡ 15 * dpcchFormat format .tfci) (fbi-ok : length fbi ≡ 15 * dpcchFormat format .fbi) where
   pub frame-length : length (frameOf (dpcchFormat format) tfci fbi commands) ≡ 15 * dpcchFormat format .slot
   unfolding frameOf shape
-  frame-length = frames.frame-length (shape format) tfci fbi commands tfci-ok fbi-ok
+  frame-length = frames.frame-length (shape format) all-slots tfci fbi commands tfci-ok fbi-ok
 
   pub frame-slot : (k : ℕ) → k < 15 → part k (dpcchFormat format .slot) (frameOf (dpcchFormat format) tfci fbi commands) ≡ slotAt (dpcchFormat format) tfci fbi commands k
   unfolding frameOf shape
-  frame-slot = frames.frame-slot (shape format) tfci fbi commands tfci-ok fbi-ok
+  frame-slot = frames.frame-slot (shape format) all-slots tfci fbi commands tfci-ok fbi-ok
 
 -- slot k is lent and comes back written
 pub slot-written : (format : ℕ) (tfci fbi commands out x y : List ℕ) (k n m w : ℕ)
@@ -100,30 +100,30 @@ slot-written format tfci fbi commands out x y k n m w room h p q r f e =
     sizes-pass format _ _ _ (room .format-ok)
     (record {
       sound = sound-format format;
-      tfci-ok = lent-length k n tfci h (sized p (f-ok .tfci-ok)) ∙ p;
-      fbi-ok = lent-length k m fbi h (sized q (f-ok .fbi-ok)) ∙ q;
-      slot-ok = lent-part k w h (sized r (room .frame-ok)) f ∙ r;
+      tfci-ok = lent-length k n tfci h (sized 15 p (f-ok .tfci-ok)) ∙ p;
+      fbi-ok = lent-length k m fbi h (sized 15 q (f-ok .fbi-ok)) ∙ q;
+      slot-ok = lent-part k w h (sized 15 r (room .frame-ok)) f ∙ r;
     })
     in
-    frames.slot-written (shape format) tfci fbi commands out x y k n m w (f-ok .tfci-ok) (f-ok .fbi-ok) (room .frame-ok) h p q r f (e .out-is ∙ rw sizes)
+    frames.slot-written (shape format) all-slots tfci fbi commands out x y k w (f-ok .tfci-ok) (f-ok .fbi-ok) (room .frame-ok) h r f k n m p q refl refl (e .out-is ∙ rw sizes)
 
 -- the fields of a frame, slot by slot
 module _ (format : ℕ) (xs : List ℕ) (long : length xs ≡ 15 * dpcchFormat format .slot) where
   pub tfci-in-length : length (frameTfciIn (dpcchFormat format) xs) ≡ 15 * dpcchFormat format .tfci
   unfolding frameTfciIn shape
-  tfci-in-length = frames.firsts-length (shape format) xs long
+  tfci-in-length = frames.firsts-length (shape format) all-slots xs long
 
   pub fbi-in-length : length (frameFbiIn (dpcchFormat format) xs) ≡ 15 * dpcchFormat format .fbi
   unfolding frameFbiIn shape
-  fbi-in-length = frames.seconds-length (shape format) xs long
+  fbi-in-length = frames.seconds-length (shape format) all-slots xs long
 
   pub commands-in-length : length (commandsIn (dpcchFormat format) xs) ≡ 15
   unfolding commandsIn shape
-  commands-in-length = frames.commands-length (shape format) xs long
+  commands-in-length = frames.commands-length (shape format) all-slots xs long
 
   pub command-of : (k : ℕ) → k < 15 → getD (commandsIn (dpcchFormat format) xs) k 0 ≡ commandIn (dpcchFormat format) (part k (dpcchFormat format .slot) xs)
   unfolding commandsIn shape
-  command-of = frames.command-of (shape format) xs long
+  command-of = frames.command-of (shape format) all-slots xs long
 
 -- slot k is lent, and its fields come back
 module _ (format : ℕ) (xs t b c x u : List ℕ) (k n m w : ℕ) (room : Room format (length t) (length b) (length c) (length xs)) (h : k < 15)
@@ -145,13 +145,13 @@ module _ (format : ℕ) (xs t b c x u : List ℕ) (k n m w : ℕ) (room : Room f
       sizes-pass format _ _ _ (room .format-ok)
       (record {
         sound = sound-format format;
-        tfci-ok = lent-part k n h (sized p (room .fields .tfci-ok)) f ∙ p;
-        fbi-ok = lent-part k m h (sized q (room .fields .fbi-ok)) g ∙ q;
-        slot-ok = lent-length k w xs h (sized r long) ∙ r;
+        tfci-ok = lent-part k n h (sized 15 p (room .fields .tfci-ok)) f ∙ p;
+        fbi-ok = lent-part k m h (sized 15 q (room .fields .fbi-ok)) g ∙ q;
+        slot-ok = lent-length k w xs h (sized 15 r long) ∙ r;
       })
       in
       record {
-        tfci-back = frames.first-taken (shape format) xs long k w h r t x y n (room .fields .tfci-ok) p f (e .tfci-is ∙ rw sizes);
-        fbi-back = frames.second-taken (shape format) xs long k w h r b u v m (room .fields .fbi-ok) q g (e .fbi-is ∙ rw sizes);
-        command-back = frames.command-taken (shape format) xs long k w h r _ (e .command-is ∙ rw sizes);
+        tfci-back = frames.first-taken (shape format) all-slots xs long k k w h refl r t x y n (room .fields .tfci-ok) p f (e .tfci-is ∙ rw sizes);
+        fbi-back = frames.second-taken (shape format) all-slots xs long k k w h refl r b u v m (room .fields .fbi-ok) q g (e .fbi-is ∙ rw sizes);
+        command-back = frames.command-taken (shape format) all-slots xs long k k w h refl r _ (e .command-is ∙ rw sizes);
       }

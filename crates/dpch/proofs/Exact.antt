@@ -1,12 +1,12 @@
 -- The theorems of specs/Exact.antt.
 -- Assumes nothing.
 use mathlib.Core.Path.{_≡_, refl, sym, ap, _∙_, subst}
-use mathlib.Core.Bool.{Bool, true, false, _&&_, _||_}
+use mathlib.Core.Bool.{Bool, true, false, cond, _&&_, _||_}
 use mathlib.Core.List.{List, [], _∷_, map}
-use Prim.Native.Nat.{ℕ, _+_, _-_, _*_, _^_, _≤_, _<_}
+use Prim.Native.Nat.{ℕ, _+_, _-_, _*_, _/_, _^_, _≤_, _<_}
 use native.Mathlib.Nat.{not-suc-le-zero}
 use native.Mathlib.Omega.{arith}
-use borrow.Author.Tests.{eqb-true, leb-true, ltb-true, ltb-false, le-leb}
+use borrow.Author.Tests.{eqb-true, leb-true, ltb-true, ltb-false, le-leb, ne-eqb}
 use lib.Dec.{leb, ltb, eqb, lit<}
 use lib.ListN.{length, getD, take, drop, replicate, length-append, List·getD-eq-default}
 use lib.Seq.{take-all}
@@ -21,16 +21,17 @@ use Rattle.run.proofs.Stretch.{each-field}
 use Rattle.run.proofs.Table.{by-table, table-test, all-of}
 use Rattle.dpch.specs.declared.Format.{Format}
 use Rattle.dpch.specs.declared.Dpcch.{Dpcch}
-use Rattle.dpch.specs.Formats.{row, formats, formatOf, widths}
+use Rattle.dpch.specs.Formats.{kindA, kindB, noRow, formats, formatOf, widths}
 use Rattle.dpch.specs.Pilots.{bitsOf, symbols1, symbols3, symbols5, symbols7, symbolsOf, symbolsFor, pilotRow, pilotSource, pilotOf}
+use Rattle.dpch.specs.Compressed.{formatsA, formatsB, formatIn, pairsTwice, pilotFor, sourceFor}
 use Rattle.dpch.specs.SecondPilots.{table14, printed14, patterns14, secondPilot, secondSource}
 use Rattle.dpch.specs.Uplink.{dpdchSizes, dpdchSize, dpcchRow, dpcchFormats, dpcchFormat, dpcchWidths}
 use Rattle.dpch.specs.UplinkPilots.{table3, table4, printedRow, patterns, dpcchPilot, shadowed, wordBits, pinnedBit, pinnedPilot}
 use Rattle.dpch.specs.Layouts.{Layout, Channel, downlinkDpch, uplinkDpdch, uplinkDpcch, layoutOf}
-use Rattle.dpch.specs.Exact.{FieldsFill, FormatSizes, FormatPilots, FormatSecondPilots, PatternsBegin, DpdchSizes, DpdchShort, DpcchFormats, DpcchPilots, PilotsPinned}
+use Rattle.dpch.specs.Exact.{FieldsFill, FormatSizes, FormatPilots, NormalFormats, KindSizes, asA, asB, Pinned, FieldsDoubled, FormatSecondPilots, PatternsBegin, DpdchSizes, DpdchShort, DpcchFormats, DpcchPilots, PilotsPinned}
 
 -- a test of a format that holds for each row, and for the row of zeros, holds for every number
-every-format : (ok : Format → Bool) → ok (row 0 0 0 0 0 0) ≡ true → all-of ok formats ≡ true → (n : ℕ) → ok (formatOf n) ≡ true
+every-format : (ok : Format → Bool) → ok noRow ≡ true → all-of ok formats ≡ true → (n : ℕ) → ok (formatOf n) ≡ true
 unfolding formatOf
 every-format ok h t n = table-test ok _ h formats t n
 
@@ -39,19 +40,37 @@ every-dpcch : (ok : Dpcch → Bool) → ok (dpcchRow 0 0 0 0 0) ≡ true → all
 unfolding dpcchFormat
 every-dpcch ok h t n = table-test ok _ h dpcchFormats t n
 
--- one test for the three tables
+-- .. and so for every row of every kind
+every-row : (ok : Format → Bool) → ok noRow ≡ true → all-of ok formats ≡ true → all-of ok formatsA ≡ true → all-of ok formatsB ≡ true
+    → (kind n : ℕ) → ok (formatIn kind n) ≡ true
+unfolding formatIn
+every-row ok none rows rowsA rowsB kind n =
+    either-row (eqb kind 0) (every-format ok none rows n)
+    (either-row (eqb kind 1) (table-test ok _ none formatsA rowsA n)
+    (either-row (eqb kind 2) (table-test ok _ none formatsB rowsB n) none))
+  where
+    either-row : (b : Bool) {f g : Format} → ok f ≡ true → ok g ≡ true → ok (cond b f g) ≡ true
+    either-row true p q = p
+    either-row false p q = q
+
+-- one test for all tables
 full : Layout → Bool
 full l = eqb (total (l .fields)) (l .slot)
 
 every-full : (channel : Channel) (n : ℕ) → full (layoutOf channel n) ≡ true
-unfolding full formats dpdchSize dpdchSizes dpcchFormats total
-every-full downlinkDpch n = every-format (λ (f : Format). full (record { fields = widths f; slot = f .slot })) refl refl n
+unfolding full formats formatsA formatsB dpdchSize dpdchSizes dpcchFormats total
+every-full (downlinkDpch kind) n = every-row (λ (f : Format). full (record { fields = widths f; slot = f .slot })) refl refl refl refl kind n
 every-full uplinkDpdch n = table-test (λ (size : ℕ). full (record { fields = size ∷ []; slot = size })) 0 refl dpdchSizes refl n
 every-full uplinkDpcch n = every-dpcch (λ (f : Dpcch). full (record { fields = dpcchWidths f; slot = f .slot })) refl refl n
 
 pub fields-fill : FieldsFill
 unfolding full
 fields-fill channel n = eqb-true _ _ (every-full channel n)
+
+-- .. of the normal formats by their number
+pub normal-fill : (format : ℕ) → total (widths (formatOf format)) ≡ formatOf format .slot
+unfolding formatIn
+normal-fill format = fields-fill (downlinkDpch 0) format
 
 tpc-some : Every (λ (n : ℕ). ltb 0 (formatOf n .tpc)) 17
 unfolding formats formatOf firstBad
@@ -65,43 +84,168 @@ format-sizes n =
       has-tpc = λ h. ltb-true _ _ (tpc-some n h);
     }
 
--- the bits that a pilot can have, 0 for the row of zeros
-pilotBits : ℕ → Bool
-pilotBits bits = eqb bits 0 || eqb bits 2 || eqb bits 4 || eqb bits 8 || eqb bits 16
+-- the bits that a pilot of a kind can have
+bitsOfKind : ℕ → ℕ → Bool
+bitsOfKind kind bits =
+    cond (eqb kind 2) (eqb bits 4 || eqb bits 8 || eqb bits 16 || eqb bits 32) (eqb bits 0 || eqb bits 2 || eqb bits 4 || eqb bits 8 || eqb bits 16)
 
--- what holds for patterns of 0, 2, 4, 8 and 16 bits holds for the pilot of every format
-pub at-each : (P : ℕ → Type 0) → P 0 → P 2 → P 4 → P 8 → P 16 → (format : ℕ) → P (formatOf format .pilot)
-unfolding formats pilotBits
-at-each P p0 p2 p4 p8 p16 format =
-    bits (formatOf format .pilot) (every-format (λ (f : Format). pilotBits (f .pilot)) refl refl format)
+-- what holds for patterns of 0, 2, 4, 8 and 16 bits of other kinds, and for those of 4, 8, 16 and 32 bits of B, holds for the pilot of every row
+pub at-rows : (P : ℕ → ℕ → Type 0) → ((kind : ℕ) → eqb kind 2 ≡ false → P kind 0 × P kind 2 × P kind 4 × P kind 8 × P kind 16) → P 2 4 → P 2 8 → P 2 16 → P 2 32
+    → (kind format : ℕ) → P (formatIn kind format .kind) (formatIn kind format .pilot)
+unfolding formats formatsA formatsB bitsOfKind
+at-rows P plain b4 b8 b16 b32 kind format =
+    by-kind (formatIn kind format .kind) (formatIn kind format .pilot) (eqb (formatIn kind format .kind) 2) refl
+    (every-row (λ (f : Format). bitsOfKind (f .kind) (f .pilot)) refl refl refl refl kind format)
   where
-    bits : (n : ℕ) → (eqb n 0 || eqb n 2 || eqb n 4 || eqb n 8 || eqb n 16) ≡ true → P n
-    bits n e =
-        either _ (eqb n 16) e
-        (λ e. either _ (eqb n 8) e
-        (λ e. either _ (eqb n 4) e
-        (λ e. either (eqb n 0) (eqb n 2) e (λ h. rw (eqb-true n 0 h) p0) (λ h. rw (eqb-true n 2 h) p2))
-        (λ h. rw (eqb-true n 4 h) p4))
-        (λ h. rw (eqb-true n 8 h) p8))
-        (λ h. rw (eqb-true n 16 h) p16)
+    by-kind : (k n : ℕ) (b : Bool) → eqb k 2 ≡ b
+        → cond (eqb k 2) (eqb n 4 || eqb n 8 || eqb n 16 || eqb n 32) (eqb n 0 || eqb n 2 || eqb n 4 || eqb n 8 || eqb n 16) ≡ true → P k n
+    by-kind k n true e t =
+        rw (eqb-true k 2 e)
+        (either _ (eqb n 32) (rw e at t)
+        (λ t. either _ (eqb n 16) t
+        (λ t. either (eqb n 4) (eqb n 8) t (λ h. rw (eqb-true n 4 h) b4) (λ h. rw (eqb-true n 8 h) b8))
+        (λ h. rw (eqb-true n 16 h) b16))
+        (λ h. rw (eqb-true n 32 h) b32))
+    by-kind k n false e t =
+        either _ (eqb n 16) (rw e at t)
+        (λ t. either _ (eqb n 8) t
+        (λ t. either _ (eqb n 4) t
+        (λ t. either (eqb n 0) (eqb n 2) t (λ h. rw (eqb-true n 0 h) (plain k e .0)) (λ h. rw (eqb-true n 2 h) (plain k e .1)))
+        (λ h. rw (eqb-true n 4 h) (plain k e .2)))
+        (λ h. rw (eqb-true n 8 h) (plain k e .3)))
+        (λ h. rw (eqb-true n 16 h) (plain k e .4))
 
-pilot-bits : (format : ℕ) → Every (λ (slot : ℕ). all-of (λ (x : ℕ). leb x 1) (pilotOf (formatOf format .pilot) slot)) 15
-unfolding pilotOf symbolsFor symbolsOf symbols1 symbols3 symbols5 symbols7 joined firstBad
+-- the digits of a pattern, in all fifteen slots
+abbrev all-bits : (ℕ → List ℕ) → Type 0
+all-bits pattern = Every (λ (slot : ℕ). all-of (λ (x : ℕ). leb x 1) (pattern slot)) 15
+
+pilot-bits : (kind format : ℕ) → all-bits (pilotFor (formatIn kind format .kind) (formatIn kind format .pilot))
+unfolding pilotFor pairsTwice pilotOf symbolsFor symbolsOf symbols1 symbols3 symbols5 symbols7 joined firstBad
 pilot-bits =
-    at-each (λ (n : ℕ). Every (λ (slot : ℕ). all-of (λ (x : ℕ). leb x 1) (pilotOf n slot)) 15)
-    (every-by _ 15 refl) (every-by _ 15 refl) (every-by _ 15 refl) (every-by _ 15 refl) (every-by _ 15 refl)
+    at-rows (λ (k n : ℕ). all-bits (pilotFor k n))
+    (λ k e. rw e (every-by _ 15 refl, every-by _ 15 refl, every-by _ 15 refl, every-by _ 15 refl, every-by _ 15 refl))
+    (every-by _ 15 refl) (every-by _ 15 refl) (every-by _ 15 refl) (every-by _ 15 refl)
 
 pub format-pilots : FormatPilots
-unfolding pilotOf pilotSource pilotRow symbolsFor symbolsOf joined
-format-pilots format slot =
+unfolding pilotFor sourceFor pairsTwice pilotOf pilotSource pilotRow symbolsFor symbolsOf joined
+format-pilots kind format slot =
     record {
-      cut-from = at-each (λ (n : ℕ). pilotOf n slot ≡ take n (pilotSource n slot)) refl refl refl refl refl format;
-      enough = at-each (λ (n : ℕ). n ≤ length (pilotSource n slot)) (omega arith) (omega arith) (omega arith) (omega arith) (omega arith) format;
-      long = at-each (λ (n : ℕ). length (pilotOf n slot) ≡ n) refl refl refl refl refl format;
-      digits = λ h k. leb-true _ _ (table-test (λ (x : ℕ). leb x 1) 0 refl (pilotOf (formatOf format .pilot) slot) (pilot-bits format slot h) k);
+      cut-from = at-rows (λ (k n : ℕ). pilotFor k n slot ≡ take n (sourceFor k n slot)) (λ k e. rw e (refl, refl, refl, refl, refl)) refl refl refl refl kind format;
+      enough = at-rows (λ (k n : ℕ). n ≤ length (sourceFor k n slot)) (λ k e. rw e (omega arith, omega arith, omega arith, omega arith, omega arith))
+          (omega arith) (omega arith) (omega arith) (omega arith) kind format;
+      long = at-rows (λ (k n : ℕ). length (pilotFor k n slot) ≡ n) (λ k e. rw e (refl, refl, refl, refl, refl)) refl refl refl refl kind format;
+      digits = λ h k.
+          leb-true _ _
+          (table-test (λ (x : ℕ). leb x 1) 0 refl (pilotFor (formatIn kind format .kind) (formatIn kind format .pilot) slot) (pilot-bits kind format slot h) k);
     }
 
+normal-kind : (format : ℕ) → formatOf format .kind ≡ 0
+unfolding formats
+normal-kind format = eqb-true _ _ (every-format (λ (f : Format). eqb (f .kind) 0) refl refl format)
+
+fifteen : Every (λ (n : ℕ). eqb (formatOf n .fewest) 15 && eqb (formatOf n .most) 15) 17
+unfolding formats formatOf firstBad
+fifteen = every-by _ 17 refl
+
+pub normal-formats : NormalFormats
+unfolding pilotFor
+normal-formats format =
+    record {
+      is-normal = normal-kind format;
+      pilot-is = λ slot. rw (normal-kind format);
+      all-slots = λ h. (eqb-true _ _ (and-left _ _ (fifteen format h)), eqb-true _ _ (and-right (eqb (formatOf format .fewest) 15) _ (fifteen format h)));
+    }
+
+-- ---- compressed frames
+
+-- what is asked of a row that is there
+row-test : Format → Bool
+row-test f = leb (f .slot) 1280 && (eqb (f .kind) 0 || (ltb 0 (f .tpc) && (eqb (f .fewest) 8 && eqb (f .most) 14)))
+
+pub kind-sizes : KindSizes
+unfolding formats formatsA formatsB row-test
+kind-sizes kind format =
+    record {
+      short = leb-true _ _ (and-left _ _ test);
+      has-tpc = λ h. ltb-true _ _ (and-left _ _ (there h));
+      eight = λ h. eqb-true _ _ (and-left _ _ (and-right (ltb 0 (formatIn kind format .tpc)) _ (there h)));
+      fourteen = λ h. eqb-true _ _ (and-right (eqb (formatIn kind format .fewest) 8) _ (and-right (ltb 0 (formatIn kind format .tpc)) _ (there h)));
+    }
+  where
+    test : row-test (formatIn kind format) ≡ true
+    test = every-row row-test refl refl refl refl kind format
+
+    there : 0 < formatIn kind format .kind → (ltb 0 (formatIn kind format .tpc) && (eqb (formatIn kind format .fewest) 8 && eqb (formatIn kind format .most) 14)) ≡ true
+    there h =
+        either (eqb (formatIn kind format .kind) 0) _ (and-right (leb (formatIn kind format .slot) 1280) _ test)
+        (λ e. absurd (let z : formatIn kind format .kind ≡ 0 = eqb-true _ _ e in let y : ⊥ = omega arith in y))
+        (λ e. e)
+
+-- the printed rows of A, with none in the place of 1A, and of B, compared at once
+rows-a : (format : ℕ) → format < 17 → formatIn kindA format ≡ cond (eqb format 1) noRow (asA (formatOf format))
+unfolding formatIn formatsA formatOf formats tab
+rows-a = by-table noRow 17 (formatIn kindA) (λ (n : ℕ). cond (eqb n 1) noRow (asA (formatOf n))) refl
+
+rows-b : (format : ℕ) → format < 16 → formatIn kindB format ≡ asB (formatOf format)
+unfolding formatIn formatsB formatOf formats tab
+rows-b = by-table noRow 16 (formatIn kindB) (λ (n : ℕ). asB (formatOf n)) refl
+
+pub pinned : Pinned
+unfolding formats formatsA formatsB formatIn formatOf
+pinned =
+    record {
+      a-is = λ format h other. rows-a format (omega arith) ∙ rw (ne-eqb format 1 other);
+      gives-up = λ format. leb-true _ _ (every-format (λ (f : Format). leb (f .tfci) (f .data2)) refl refl format);
+      b-is = λ format h. rows-b format (omega arith);
+      no-1A = refl;
+      no-16B = refl;
+      no-number = λ kind format h. no-number kind format (omega arith);
+      no-kind = λ kind format h.
+          rw (ne-eqb kind 0 (λ e. let z : ⊥ = omega arith in z), ne-eqb kind 1 (λ e. let z : ⊥ = omega arith in z), ne-eqb kind 2 (λ e. let z : ⊥ = omega arith in z));
+    }
+  where
+    same : (b : Bool) {f g : Format} → f ≡ noRow → g ≡ noRow → cond b f g ≡ noRow
+    same true p q = p
+    same false p q = q
+
+    no-number : (kind format : ℕ) → 17 ≤ format → formatIn kind format ≡ noRow
+    no-number kind format h =
+        let past : 16 ≤ format = omega arith in
+        same (eqb kind 0) (List·getD-eq-default formats _ h)
+        (same (eqb kind 1) (List·getD-eq-default formatsA _ h) (same (eqb kind 2) (List·getD-eq-default formatsB _ past) refl))
+
+-- the TPC bits of the rows of B
+tpc-widths : Every (λ (n : ℕ). eqb (formatOf n .tpc) 2 || eqb (formatOf n .tpc) 4 || eqb (formatOf n .tpc) 8) 16
+unfolding formats formatOf firstBad
+tpc-widths = every-by _ 16 refl
+
+pub fields-doubled : FieldsDoubled
+unfolding pilotFor pairsTwice
+fields-doubled format h =
+    record {
+      tpc-twice = λ tpc. ap (λ (f : Format). replicate (f .tpc) tpc) (rows-b format (omega arith)) ∙ twice tpc (formatOf format .tpc) (tpc-widths format (omega arith));
+      pilot-twice = λ slot.
+          ap (λ (f : Format). pairsTwice (pilotOf (f .pilot / 2) slot)) (rows-b format (omega arith))
+          ∙ ap (λ (n : ℕ). pairsTwice (pilotOf n slot)) (omega arith);
+    }
+  where
+    twice : (tpc n : ℕ) → (eqb n 2 || eqb n 4 || eqb n 8) ≡ true → replicate (2 * n) tpc ≡ pairsTwice (replicate n tpc)
+    twice tpc n e =
+        either _ (eqb n 8) e
+        (λ e. either (eqb n 2) (eqb n 4) e (λ h. rw (eqb-true n 2 h)) (λ h. rw (eqb-true n 4 h)))
+        (λ h. rw (eqb-true n 8 h))
+
 -- ---- antenna 2
+
+-- what holds for patterns of 0, 2, 4, 8 and 16 bits holds for the pilot of every normal format
+at-each : (P : ℕ → Type 0) → P 0 → P 2 → P 4 → P 8 → P 16 → (format : ℕ) → P (formatOf format .pilot)
+unfolding formatIn
+at-each P p0 p2 p4 p8 p16 format =
+    at-rows (λ (k n : ℕ). k < 2 → P n) (λ k e. ((λ _. p0), (λ _. p2), (λ _. p4), (λ _. p8), (λ _. p16))) not-b not-b not-b not-b
+    0 format (rw (normal-kind format) (lit< tt))
+  where
+    not-b : {n : ℕ} → 2 < 2 → P n
+    not-b h = let z : ⊥ = omega arith in absurd z
 
 abbrev bit : ℕ → Bool
 bit x = leb x 1

@@ -11,7 +11,7 @@ use lib.ListN.{length, getD}
 use Rattle.run.specs.First.{Every}
 use Rattle.run.specs.Refusals.{tfciRefused}
 use Rattle.run.specs.Verdicts.{done, Narrow}
-use Rattle.run.proofs.Chain.{or-else-done, unless-done, or-else-pass, unless-pass, AllRight, lengths-two, lengths-done, lengths-pass, check-narrow, lengths-narrow}
+use Rattle.run.proofs.Chain.{or-else-done, unless-done, or-else-pass, unless-pass, AllRight, lengths-two, lengths-three, lengths-done, lengths-pass, check-narrow, lengths-narrow}
 use Rattle.run.proofs.Never.{or-else-never, unless-never, lengths-never}
 use Rattle.dpch.specs.Heads.{frameHead, slotHead}
 
@@ -19,6 +19,11 @@ use Rattle.dpch.specs.Heads.{frameHead, slotHead}
 pub head-two : (last format : ℕ) (a b : Bool) → frameHead last format (a ∷ b ∷ true ∷ true ∷ []) ≡ frameHead last format (a ∷ b ∷ [])
 unfolding frameHead
 head-two last format a b = rw (lengths-two a b)
+
+-- .. and three, where nothing is asked of a fourth
+pub head-three : (last format : ℕ) (a b c : Bool) → frameHead last format (a ∷ b ∷ c ∷ true ∷ []) ≡ frameHead last format (a ∷ b ∷ c ∷ [])
+unfolding frameHead
+head-three last format a b c = rw (lengths-three a b c)
 
 module _ (last format : ℕ) (right : List Bool) where
   pub record FrameHeaded : Type 0 where

@@ -1,17 +1,19 @@
 -- What the tables obey. Each statement is proved in proofs/Exact.antt under its name in small letters.
 -- Assumes nothing.
-use Prim.Native.Nat.{ℕ, _*_, _^_, _<_, _≤_}
+use Prim.Native.Nat.{ℕ, _-_, _*_, _^_, _<_, _≤_}
 use mathlib.Core.Path.{_≡_}
-use lib.ListN.{length, getD, take}
+use lib.ListN.{length, getD, take, replicate}
 use Rattle.run.specs.First.{Every, atMost}
-use Rattle.dpch.specs.Formats.{formatOf}
-use Rattle.dpch.specs.Pilots.{pilotSource, pilotOf}
+use Rattle.dpch.specs.declared.Format.{Format}
+use Rattle.dpch.specs.Formats.{normal, kindA, kindB, noRow, formatOf}
+use Rattle.dpch.specs.Pilots.{pilotOf}
+use Rattle.dpch.specs.Compressed.{rowA, rowB, formatIn, pairsTwice, pilotFor, sourceFor}
 use Rattle.dpch.specs.SecondPilots.{secondPilot, secondSource}
 use Rattle.dpch.specs.Uplink.{dpdchSize, dpcchFormat}
 use Rattle.dpch.specs.UplinkPilots.{dpcchPilot, pinnedPilot}
 use Rattle.dpch.specs.Layouts.{Fills, Channel, layoutOf}
 
--- the fields fill the slot exactly, on both links: of any number, the layouts of no format included
+-- the fields fill the slot exactly, on both links and in compressed frames: of any number and kind, the layouts of no format included
 abbrev pub FieldsFill : Type 0
 FieldsFill = (channel : Channel) (format : ℕ) → Fills (layoutOf channel format)
 
@@ -23,15 +25,62 @@ pub record Sizes (format : ℕ) : Type 0 where
 abbrev pub FormatSizes : Type 0
 FormatSizes = (format : ℕ) → Sizes format
 
--- a format's pilot is cut from the slot's row, has as many digits as the format says, and every digit is a bit
-pub record Pilot (format slot : ℕ) : Type 0 where
-  pub cut-from : pilotOf (formatOf format .pilot) slot ≡ take (formatOf format .pilot) (pilotSource (formatOf format .pilot) slot)
-  pub enough : formatOf format .pilot ≤ length (pilotSource (formatOf format .pilot) slot)
-  pub long : length (pilotOf (formatOf format .pilot) slot) ≡ formatOf format .pilot
-  pub digits : slot < 15 → (k : ℕ) → getD (pilotOf (formatOf format .pilot) slot) k 0 ≤ 1
+-- a row's pilot is cut from what it begins, has as many digits as the row says, and every digit is a bit
+pub record Pilot (f : Format) (slot : ℕ) : Type 0 where
+  pub cut-from : pilotFor (f .kind) (f .pilot) slot ≡ take (f .pilot) (sourceFor (f .kind) (f .pilot) slot)
+  pub enough : f .pilot ≤ length (sourceFor (f .kind) (f .pilot) slot)
+  pub long : length (pilotFor (f .kind) (f .pilot) slot) ≡ f .pilot
+  pub digits : slot < 15 → (k : ℕ) → getD (pilotFor (f .kind) (f .pilot) slot) k 0 ≤ 1
 
 abbrev pub FormatPilots : Type 0
-FormatPilots = (format slot : ℕ) → Pilot format slot
+FormatPilots = (kind format slot : ℕ) → Pilot (formatIn kind format) slot
+
+-- the normal formats are of the normal kind, with the pilot as table 12 prints it, and all fifteen slots are transmitted
+pub record Normal (format : ℕ) : Type 0 where
+  pub is-normal : formatOf format .kind ≡ normal
+  pub pilot-is : (slot : ℕ) → pilotFor (formatOf format .kind) (formatOf format .pilot) slot ≡ pilotOf (formatOf format .pilot) slot
+  pub all-slots : format < 17 → (formatOf format .fewest ≡ 15) × (formatOf format .most ≡ 15)
+
+abbrev pub NormalFormats : Type 0
+NormalFormats = (format : ℕ) → Normal format
+
+-- ---- compressed frames
+
+-- no slot of any kind is longer than 1280 digits, each compressed format has TPC bits, and 8 to 14 slots are transmitted
+pub record RowSizes (f : Format) : Type 0 where
+  pub short : f .slot ≤ 1280
+  pub has-tpc : 0 < f .kind → 0 < f .tpc
+  pub eight : 0 < f .kind → f .fewest ≡ 8
+  pub fourteen : 0 < f .kind → f .most ≡ 14
+
+abbrev pub KindSizes : Type 0
+KindSizes = (kind format : ℕ) → RowSizes (formatIn kind format)
+
+-- what pins the printed rows. A: the normal row with its TFCI digits doubled, and as many given up by Data2
+abbrev pub asA : Format → Format
+asA f = rowA (f .data1) (f .data2 - f .tfci) (f .tpc) (2 * f .tfci) (f .pilot) (f .slot)
+
+-- B: the normal row with every field, and so the slot, doubled
+abbrev pub asB : Format → Format
+asB f = rowB (2 * f .data1) (2 * f .data2) (2 * f .tpc) (2 * f .tfci) (2 * f .pilot) (2 * f .slot)
+
+-- the rows that are printed obey it: 0A and 2A to 16A, 0B to 15B. The table has no other
+pub record Pinned : Type 0 where
+  pub a-is : (format : ℕ) → format ≤ 16 → (format ≡ 1 → ⊥) → formatIn kindA format ≡ asA (formatOf format)
+  pub gives-up : (format : ℕ) → formatOf format .tfci ≤ formatOf format .data2
+  pub b-is : (format : ℕ) → format ≤ 15 → formatIn kindB format ≡ asB (formatOf format)
+  pub no-1A : formatIn kindA 1 ≡ noRow
+  pub no-16B : formatIn kindB 16 ≡ noRow
+  pub no-number : (kind format : ℕ) → 16 < format → formatIn kind format ≡ noRow
+  pub no-kind : (kind format : ℕ) → kindB < kind → formatIn kind format ≡ noRow
+
+-- the TPC and pilot fields of B are the normal fields with each pair of bits twice
+pub record Doubled (format : ℕ) : Type 0 where
+  pub tpc-twice : (tpc : ℕ) → replicate (formatIn kindB format .tpc) tpc ≡ pairsTwice (replicate (formatOf format .tpc) tpc)
+  pub pilot-twice : (slot : ℕ) → pilotFor kindB (formatIn kindB format .pilot) slot ≡ pairsTwice (pilotOf (formatOf format .pilot) slot)
+
+abbrev pub FieldsDoubled : Type 0
+FieldsDoubled = (format : ℕ) → format ≤ 15 → Doubled format
 
 -- so it is with antenna 2's pilot, where it is not one of two bits: those are encoded with the data before them
 pub record SecondPilot (format slot : ℕ) : Type 0 where

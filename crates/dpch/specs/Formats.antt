@@ -5,10 +5,24 @@ use mathlib.Core.List.{List, [], _∷_}
 use lib.ListN.{getD}
 use Rattle.dpch.specs.declared.Format.{Format}
 
--- a row of the table, in its order: Data1, Data2, TPC, TFCI, Pilot, Slot
+-- the kinds of formats: normal, A, B
+abbrev pub normal : ℕ
+normal = 0
+
+abbrev pub kindA : ℕ
+kindA = 1
+
+abbrev pub kindB : ℕ
+kindB = 2
+
+-- a row of the table, in its order: Data1, Data2, TPC, TFCI, Pilot, Slot. In the normal formats all fifteen slots of a frame are transmitted
 abbrev pub row : ℕ → ℕ → ℕ → ℕ → ℕ → ℕ → Format
 row data1 data2 tpc tfci pilot slot =
-    record { data1 = data1; data2 = data2; tpc = tpc; tfci = tfci; pilot = pilot; slot = slot }
+    record { data1 = data1; data2 = data2; tpc = tpc; tfci = tfci; pilot = pilot; slot = slot; kind = normal; fewest = 15; most = 15 }
+
+-- where the table has no row
+abbrev pub noRow : Format
+noRow = record { data1 = 0; data2 = 0; tpc = 0; tfci = 0; pilot = 0; slot = 0; kind = 0; fewest = 0; most = 0 }
 
 unfoldable pub formats : List Format
 formats =
@@ -33,7 +47,7 @@ formats =
 
 -- the format of a number; a row of zeros where the table has none
 unfoldable pub formatOf : ℕ → Format
-formatOf n = getD formats n (row 0 0 0 0 0 0)
+formatOf n = getD formats n noRow
 
 -- the fields in the order in which they stand in the slot: Data1, TPC, TFCI, Data2, pilot
 abbrev pub widths : Format → List ℕ

@@ -1,4 +1,4 @@
--- docs/RULES.md, 'Numbers a call can return': the checks with which every call on a dedicated channel begins. `last` is the last format of the channel's table, and `right` says of each
+-- docs/RULES.md, 'Numbers a call can return': the checks with which every call on a channel with a table of formats begins. `last` is the last format of the channel's table, and `right` says of each
 -- lent run whether it has its length, in the order of the call.
 -- Assumes nothing.
 use Prim.Native.Nat.{ℕ}

@@ -1,5 +1,6 @@
 pub mod Formats
 pub mod Pilots
+pub mod Compressed
 pub mod SecondPilots
 pub mod Uplink
 pub mod UplinkPilots

@@ -8,11 +8,18 @@ use run::unless;
 ghost use mathlib.Core.Path.{_≡_};
 ghost use mathlib.Core.List.{[], _∷_};
 ghost use Rattle.dpch.specs.Heads.{frameHead, slotHead};
-ghost use Rattle.dpch.specs.Formats.{formatOf};
+ghost use Rattle.dpch.specs.Formats.{row, noRow, formatOf};
 ghost use Rattle.dpch.specs.Pilots.{pilotRow};
 ghost use Rattle.dpch.specs.SecondPilots.{secondPilot, rowOn};
 
-// The bits of each field of a slot, and of the slot.
+// The kinds of formats: the normal ones, those of frames compressed by higher layer scheduling, and those of frames compressed by a halved spreading factor.
+pub const NORMAL: usize = 0;
+
+pub const KIND_A: usize = 1;
+
+pub const KIND_B: usize = 2;
+
+// A row of the table: the bits of each field of a slot, and of the slot; the kind; and how many of a frame's slots are transmitted, at least and at most.
 pub struct Format {
     pub data1: usize,
     pub data2: usize,
@@ -20,6 +27,9 @@ pub struct Format {
     pub tfci: usize,
     pub pilot: usize,
     pub slot: usize,
+    pub kind: usize,
+    pub fewest: usize,
+    pub most: usize,
 }
 
 // The bits of each field of an uplink DPCCH slot, and of the slot.
@@ -37,155 +47,63 @@ pub struct Command {
     pub tpc: usize,
 }
 
-// The format of a number, a row of zeros where there is none. A match becomes a table in read-only memory.
+// A row of the table's normal formats, in which all fifteen slots are transmitted.
+fn row(data1: usize, data2: usize, tpc: usize, tfci: usize, pilot: usize, slot: usize) -> Format
+    ensures { λ r. ⌜ r ≡ row data1 data2 tpc tfci pilot slot ⌝ }
+{
+    Format {
+        data1,
+        data2,
+        tpc,
+        tfci,
+        pilot,
+        slot,
+        kind: NORMAL,
+        fewest: 15,
+        most: 15,
+    }
+}
+
+// Where the table has no row.
+fn no_row() -> Format
+    ensures { λ r. ⌜ r ≡ noRow ⌝ }
+{
+    Format {
+        data1: 0,
+        data2: 0,
+        tpc: 0,
+        tfci: 0,
+        pilot: 0,
+        slot: 0,
+        kind: NORMAL,
+        fewest: 0,
+        most: 0,
+    }
+}
+
+// The normal format of a number, a row of zeros where there is none. A match becomes a table in read-only memory.
 pub fn format_of(n: usize) -> Format
     ensures { λ r. ⌜ r ≡ formatOf n ⌝ }
 {
     match n {
-        0 => Format {
-            data1: 0,
-            data2: 4,
-            tpc: 2,
-            tfci: 0,
-            pilot: 4,
-            slot: 10,
-        },
-        1 => Format {
-            data1: 0,
-            data2: 2,
-            tpc: 2,
-            tfci: 2,
-            pilot: 4,
-            slot: 10,
-        },
-        2 => Format {
-            data1: 2,
-            data2: 14,
-            tpc: 2,
-            tfci: 0,
-            pilot: 2,
-            slot: 20,
-        },
-        3 => Format {
-            data1: 2,
-            data2: 12,
-            tpc: 2,
-            tfci: 2,
-            pilot: 2,
-            slot: 20,
-        },
-        4 => Format {
-            data1: 2,
-            data2: 12,
-            tpc: 2,
-            tfci: 0,
-            pilot: 4,
-            slot: 20,
-        },
-        5 => Format {
-            data1: 2,
-            data2: 10,
-            tpc: 2,
-            tfci: 2,
-            pilot: 4,
-            slot: 20,
-        },
-        6 => Format {
-            data1: 2,
-            data2: 8,
-            tpc: 2,
-            tfci: 0,
-            pilot: 8,
-            slot: 20,
-        },
-        7 => Format {
-            data1: 2,
-            data2: 6,
-            tpc: 2,
-            tfci: 2,
-            pilot: 8,
-            slot: 20,
-        },
-        8 => Format {
-            data1: 6,
-            data2: 28,
-            tpc: 2,
-            tfci: 0,
-            pilot: 4,
-            slot: 40,
-        },
-        9 => Format {
-            data1: 6,
-            data2: 26,
-            tpc: 2,
-            tfci: 2,
-            pilot: 4,
-            slot: 40,
-        },
-        10 => Format {
-            data1: 6,
-            data2: 24,
-            tpc: 2,
-            tfci: 0,
-            pilot: 8,
-            slot: 40,
-        },
-        11 => Format {
-            data1: 6,
-            data2: 22,
-            tpc: 2,
-            tfci: 2,
-            pilot: 8,
-            slot: 40,
-        },
-        12 => Format {
-            data1: 12,
-            data2: 48,
-            tpc: 4,
-            tfci: 8,
-            pilot: 8,
-            slot: 80,
-        },
-        13 => Format {
-            data1: 28,
-            data2: 112,
-            tpc: 4,
-            tfci: 8,
-            pilot: 8,
-            slot: 160,
-        },
-        14 => Format {
-            data1: 56,
-            data2: 232,
-            tpc: 8,
-            tfci: 8,
-            pilot: 16,
-            slot: 320,
-        },
-        15 => Format {
-            data1: 120,
-            data2: 488,
-            tpc: 8,
-            tfci: 8,
-            pilot: 16,
-            slot: 640,
-        },
-        16 => Format {
-            data1: 248,
-            data2: 1000,
-            tpc: 8,
-            tfci: 8,
-            pilot: 16,
-            slot: 1280,
-        },
-        _ => Format {
-            data1: 0,
-            data2: 0,
-            tpc: 0,
-            tfci: 0,
-            pilot: 0,
-            slot: 0,
-        },
+        0 => row(0, 4, 2, 0, 4, 10),
+        1 => row(0, 2, 2, 2, 4, 10),
+        2 => row(2, 14, 2, 0, 2, 20),
+        3 => row(2, 12, 2, 2, 2, 20),
+        4 => row(2, 12, 2, 0, 4, 20),
+        5 => row(2, 10, 2, 2, 4, 20),
+        6 => row(2, 8, 2, 0, 8, 20),
+        7 => row(2, 6, 2, 2, 8, 20),
+        8 => row(6, 28, 2, 0, 4, 40),
+        9 => row(6, 26, 2, 2, 4, 40),
+        10 => row(6, 24, 2, 0, 8, 40),
+        11 => row(6, 22, 2, 2, 8, 40),
+        12 => row(12, 48, 4, 8, 8, 80),
+        13 => row(28, 112, 4, 8, 8, 160),
+        14 => row(56, 232, 8, 8, 16, 320),
+        15 => row(120, 488, 8, 8, 16, 640),
+        16 => row(248, 1000, 8, 8, 16, 1280),
+        _ => no_row(),
     }
 }
 

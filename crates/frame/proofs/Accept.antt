@@ -4,7 +4,6 @@ use mathlib.Core.Path.{_≡_}
 use mathlib.Core.Bool.{Bool, true}
 use mathlib.Core.List.{List}
 use Prim.Native.Nat.{ℕ, _*_, _<_}
-use native.Mathlib.Omega.{arith}
 use borrow.Author.Tests.{eqb-true, eq-eqb}
 use lib.Dec.{eqb, lit<}
 use lib.ListN.{length, getD}
@@ -16,7 +15,8 @@ use Rattle.dpch.specs.Formats.{formatOf}
 use Rattle.dpch.proofs.Heads.{FrameHeaded, frame-headed, frame-head-pass}
 use Rattle.slot.specs.Rule.{dataSize}
 use Rattle.slot.proofs.Accept.{FieldsOk, fields-ok, DigitsOk, digits-ok}
-use Rattle.slot.proofs.Exact.{command-bit}
+use Rattle.slot.proofs.Laws.{normal-row}
+use Rattle.slot.proofs.Rows.{command-bit}
 use Rattle.frame.specs.Outcome.{mapHead, mapVerdict, readHead, readVerdict}
 use Rattle.frame.specs.Ready.{Room, Bits}
 
@@ -96,6 +96,6 @@ pub accepted-bits : (format : ℕ) (xs : List ℕ) (dataLength tfciLength comman
 accepted-bits format xs dataLength tfciLength commandsLength a =
     record {
       bit = λ k h.
-          command-bit format k (part k (formatOf format .slot) xs) (a .slots k h) (a .room .format-ok) (omega arith)
+          command-bit (formatOf format) (normal-row format (a .room .format-ok)) k (part k (formatOf format .slot) xs) (a .slots k h)
           (part-length k 15 (formatOf format .slot) xs h (a .room .frame-ok));
     }

@@ -10,60 +10,40 @@ use Rattle.run.specs.Parts.{part}
 use Rattle.run.specs.Verdicts.{done, Narrow}
 use Rattle.run.proofs.Chain.{or-else-pass, chain-pass, or-else-narrow, chain-narrow, one-outcome, number-0}
 use Rattle.run.proofs.Frames as frames
-use Rattle.run.proofs.Frames.{Codec, frame-gives, frame-fits, frame-good, firsts-back, seconds-back}
+use Rattle.run.proofs.Frames.{all-slots, none-silent, frame-gives, frame-fits, frame-good, firsts-back, seconds-back}
 use Rattle.run.proofs.Parts.{part-room, part-length}
 use Rattle.dpch.specs.Formats.{formatOf}
 use Rattle.dpch.proofs.Heads.{frame-head-narrow}
-use Rattle.slot.specs.Rule as slot
 use Rattle.slot.specs.Rule.{dataSize}
-use Rattle.slot.specs.Outcome as slot-outcome
-use Rattle.slot.proofs.Laws.{sound-format, data-small, tfci-small}
+use Rattle.slot.specs.Ready.{Row}
+use Rattle.slot.proofs.Laws.{sound-format, normal-row, data-small, tfci-small}
 use Rattle.slot.proofs.Accept as slot-accept
 use Rattle.slot.proofs.Accept.{FieldsOk, DigitsOk}
 use Rattle.slot.proofs.Exact as slot-exact
+use Rattle.slot.proofs.Rows.{shape, codec, digits-narrow}
 use Rattle.frame.specs.Rule.{frameOf, dataIn, tfciIn, commandsIn}
 use Rattle.frame.specs.Outcome.{mapHead, mapVerdict, readHead, readVerdict}
 use Rattle.frame.specs.Ready.{Ready}
 use Rattle.frame.specs.Exact.{Gives, Fields, ReadExact, FrameSlots, MapOnce, ReadOnce, Packs}
-use Rattle.frame.proofs.Laws.{shape, frame-length, frame-slot, data-in-length, tfci-in-length, commands-in-length}
+use Rattle.frame.proofs.Laws.{frame-length, frame-slot, data-in-length, tfci-in-length, commands-in-length}
 use Rattle.frame.proofs.Accept.{Mapped, mapped, Accepted, accepted, map-headed, read-headed, map-head-pass, read-head-pass}
-
--- slots of the DPCH are read exactly
-module _ (format : ℕ) (format-ok : format ≤ 16) where
-  slot-mapped : (k c : ℕ) (a b : List ℕ) → k < 15 → length a ≡ dataSize (formatOf format) → length b ≡ formatOf format .tfci → FieldsOk c a b
-      → slot-accept.Mapped format k c a b (formatOf format .slot)
-  unfolding slot-outcome.mapVerdict
-  slot-mapped k c a b h p q fit =
-      slot-accept.mapped format k c a b _
-      (number-0 (or-else-pass (slot-accept.map-head-pass format k _ _ _ format-ok (omega arith) p q refl) (slot-accept.fields-pass c a b 0 0 0 fit)))
-
-  unfoldable codec : Codec (shape format)
-  unfolding shape
-  codec =
-      record {
-        Good = DigitsOk (formatOf format);
-        Fit = FieldsOk;
-        gives = λ k xs h long good. slot-exact.read-gives format k xs good format-ok (omega arith) long;
-        fits = λ k xs h long good. slot-accept.mapped format k _ _ _ _ (number-0 (slot-exact.read-maps format k xs good format-ok (omega arith) long)) .fields;
-        good = λ k c a b h p q fit. slot-exact.mapped-digits-ok format k c a b (slot-mapped k c a b h p q fit);
-        command-back = λ k c a b h p q fit. slot-exact.command-back format k c a b (slot-mapped k c a b h p q fit);
-        first-back = λ k c a b h p q fit. slot-exact.data-back format k c a b (slot-mapped k c a b h p q fit);
-        second-back = λ k c a b h p q fit. slot-exact.tfci-back format k c a b (slot-mapped k c a b h p q fit);
-      }
 
 -- ---- what reading accepts, its fields give
 module _ (format : ℕ) (xs : List ℕ) (a : Accepted format xs (15 * dataSize (formatOf format)) (15 * formatOf format .tfci) 15) where
   long : length xs ≡ 15 * formatOf format .slot
   long = a .room .frame-ok
 
+  row : Row (formatOf format)
+  row = normal-row format (a .room .format-ok)
+
   read-frame : frameOf (formatOf format) (dataIn (formatOf format) xs) (tfciIn (formatOf format) xs) (commandsIn (formatOf format) xs) ≡ xs
   unfolding frameOf dataIn tfciIn commandsIn shape codec
-  read-frame = frame-gives (shape format) (codec format (a .room .format-ok)) xs long (a .slots)
+  read-frame = frame-gives (shape (formatOf format) (row .sound)) all-slots (codec (formatOf format) row) xs long (λ k h e. a .slots k h) (λ k h e. none-silent e)
 
   slot-fits : (k : ℕ) → k < 15
       → FieldsOk (getD (commandsIn (formatOf format) xs) k 0) (part k (dataSize (formatOf format)) (dataIn (formatOf format) xs)) (part k (formatOf format .tfci) (tfciIn (formatOf format) xs))
   unfolding dataIn tfciIn commandsIn shape codec
-  slot-fits = frame-fits (shape format) (codec format (a .room .format-ok)) xs long (a .slots)
+  slot-fits = frame-fits (shape (formatOf format) (row .sound)) all-slots (codec (formatOf format) row) xs long (λ k h e. a .slots k h)
 
   read-taken : mapVerdict format (dataIn (formatOf format) xs) (tfciIn (formatOf format) xs) (15 * formatOf format .slot) (commandsIn (formatOf format) xs) ≡ done
   unfolding mapVerdict
@@ -82,9 +62,12 @@ module _ (format : ℕ) (d tfci commands : List ℕ) (m : Mapped format d tfci (
   f-ok : Ready format (length d) (length tfci) (length commands)
   f-ok = m .room .fields
 
+  row-ok : Row (formatOf format)
+  row-ok = normal-row format (m .room .format-ok)
+
   slot-good : (k : ℕ) → k < 15 → DigitsOk (formatOf format) k (part k (formatOf format .slot) (frameOf (formatOf format) d tfci commands))
   unfolding frameOf shape codec
-  slot-good = frame-good (shape format) (codec format (m .room .format-ok)) d tfci commands (f-ok .data-ok) (f-ok .tfci-ok) (m .slots)
+  slot-good k h = frame-good (shape (formatOf format) (row-ok .sound)) all-slots (codec (formatOf format) row-ok) d tfci commands (f-ok .data-ok) (f-ok .tfci-ok) (m .slots) k h refl
 
   mapped-accepted : readVerdict format (frameOf (formatOf format) d tfci commands) (15 * dataSize (formatOf format)) (15 * formatOf format .tfci) 15 ≡ done
   unfolding readVerdict
@@ -100,15 +83,15 @@ module _ (format : ℕ) (d tfci commands : List ℕ) (m : Mapped format d tfci (
 
   data-back : dataIn (formatOf format) (frameOf (formatOf format) d tfci commands) ≡ d
   unfolding frameOf dataIn shape codec
-  data-back = firsts-back (shape format) (codec format (m .room .format-ok)) d tfci commands (f-ok .data-ok) (f-ok .tfci-ok) (m .slots)
+  data-back = firsts-back (shape (formatOf format) (row-ok .sound)) all-slots (codec (formatOf format) row-ok) d tfci commands (f-ok .data-ok) (f-ok .tfci-ok) (m .slots)
 
   tfci-back : tfciIn (formatOf format) (frameOf (formatOf format) d tfci commands) ≡ tfci
   unfolding frameOf tfciIn shape codec
-  tfci-back = seconds-back (shape format) (codec format (m .room .format-ok)) d tfci commands (f-ok .data-ok) (f-ok .tfci-ok) (m .slots)
+  tfci-back = seconds-back (shape (formatOf format) (row-ok .sound)) all-slots (codec (formatOf format) row-ok) d tfci commands (f-ok .data-ok) (f-ok .tfci-ok) (m .slots)
 
   commands-back : commandsIn (formatOf format) (frameOf (formatOf format) d tfci commands) ≡ commands
   unfolding frameOf commandsIn shape codec
-  commands-back = frames.commands-back (shape format) (codec format (m .room .format-ok)) d tfci commands (f-ok .data-ok) (f-ok .tfci-ok) (m .slots) (f-ok .commands-ok)
+  commands-back = frames.commands-back (shape (formatOf format) (row-ok .sound)) all-slots (codec (formatOf format) row-ok) d tfci commands (f-ok .data-ok) (f-ok .tfci-ok) (m .slots) (f-ok .commands-ok)
 
 given : {format : ℕ} {d tfci commands xs : List ℕ} → Gives format d tfci commands xs → Mapped format d tfci (15 * formatOf format .slot) commands
 given {format} {d} {tfci} {commands} g = mapped format d tfci (15 * formatOf format .slot) commands (number-0 (g .taken))
@@ -167,8 +150,8 @@ map-narrow format d tfci outLength commands =
     let t = part-length k 15 (formatOf format .tfci) tfci h (r .tfci-ok) in
     let a = part-room k 15 (dataSize (formatOf format)) h in
     let b = part-room k 15 (formatOf format .tfci) h in
-    let small = data-small format in
-    let few = tfci-small format in
+    let small = data-small (formatOf format) (sound-format format) in
+    let few = tfci-small (formatOf format) (sound-format format) in
     slot-exact.fields-narrow _ _ _ k _ _ (omega arith) (omega arith) (omega arith)))
 
 read-narrow : (format : ℕ) (xs : List ℕ) (dataLength tfciLength commandsLength : ℕ) → Narrow (readVerdict format xs dataLength tfciLength commandsLength)
@@ -179,7 +162,7 @@ read-narrow format xs dataLength tfciLength commandsLength =
     let room = read-headed format (length xs) dataLength tfciLength commandsLength e in
     let a = part-room k 15 (formatOf format .slot) h in
     let short = sound-format format .short in
-    slot-exact.digits-narrow format k _ _ (part-length k 15 (formatOf format .slot) xs h (room .frame-ok)) (omega arith)))
+    digits-narrow (formatOf format) (sound-format format) k _ _ (part-length k 15 (formatOf format .slot) xs h (room .frame-ok)) (omega arith)))
 
 pub packs : Packs
 packs = record { map-narrow = map-narrow; read-narrow = read-narrow }

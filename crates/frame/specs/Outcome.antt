@@ -8,6 +8,7 @@ use lib.Dec.{eqb}
 use Rattle.run.specs.declared.Verdict.{Verdict}
 use Rattle.run.specs.Parts.{part}
 use Rattle.run.specs.Verdicts.{orElse, chain, leaves}
+use Rattle.dpch.specs.declared.Format.{Format}
 use Rattle.dpch.specs.Formats.{formatOf}
 use Rattle.dpch.specs.Heads.{frameHead}
 use Rattle.slot.specs.Rule.{dataSize}
@@ -25,14 +26,13 @@ mapHead format dataLength tfciLength outLength commandsLength =
     ∷ [])
 
 -- .. then slot by slot, as for a slot: 5 at the slot, the other places in the whole runs
-abbrev pub slotFields : ℕ → List ℕ → List ℕ → List ℕ → ℕ → Verdict
-slotFields format d tfci commands k =
-    fieldsVerdict (getD commands k 0) (part k (dataSize (formatOf format)) d) (part k (formatOf format .tfci) tfci)
-    k (k * formatOf format .tfci) (k * dataSize (formatOf format))
+abbrev pub slotFields : Format → List ℕ → List ℕ → List ℕ → ℕ → Verdict
+slotFields f d tfci commands k =
+    fieldsVerdict (getD commands k 0) (part k (dataSize f) d) (part k (f .tfci) tfci) k (k * f .tfci) (k * dataSize f)
 
 unfoldable pub mapVerdict : ℕ → List ℕ → List ℕ → ℕ → List ℕ → Verdict
 mapVerdict format d tfci outLength commands =
-    orElse (mapHead format (length d) (length tfci) outLength (length commands)) (chain 15 (slotFields format d tfci commands))
+    orElse (mapHead format (length d) (length tfci) outLength (length commands)) (chain 15 (slotFields (formatOf format) d tfci commands))
 
 pub record Map (format : ℕ) (d tfci out commands : List ℕ) (answer : Verdict) (out-after : List ℕ) : Type 0 where
   pub verdict-is : answer ≡ mapVerdict format d tfci (length out) commands
@@ -49,12 +49,12 @@ readHead format frameLength dataLength tfciLength commandsLength =
     ∷ [])
 
 -- .. then slot by slot, as for a slot; places index the frame
-abbrev pub slotDigits : ℕ → List ℕ → ℕ → Verdict
-slotDigits format xs k = digitsVerdict (formatOf format) k (part k (formatOf format .slot) xs) (k * formatOf format .slot)
+abbrev pub slotDigits : Format → List ℕ → ℕ → Verdict
+slotDigits f xs k = digitsVerdict f k (part k (f .slot) xs) (k * f .slot)
 
 unfoldable pub readVerdict : ℕ → List ℕ → ℕ → ℕ → ℕ → Verdict
 readVerdict format xs dataLength tfciLength commandsLength =
-    orElse (readHead format (length xs) dataLength tfciLength commandsLength) (chain 15 (slotDigits format xs))
+    orElse (readHead format (length xs) dataLength tfciLength commandsLength) (chain 15 (slotDigits (formatOf format) xs))
 
 pub record Read (format : ℕ) (xs d tfci commands : List ℕ) (answer : Verdict) (d-after tfci-after commands-after : List ℕ) : Type 0 where
   pub verdict-is : answer ≡ readVerdict format xs (length d) (length tfci) (length commands)

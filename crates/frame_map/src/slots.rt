@@ -12,7 +12,7 @@ ghost use Rattle.frame.specs.Ready.{Ready, Room};
 // The first slot whose command, TFCI or data is refused.
 pub(crate) fn check_fields(format: usize, data: &[u8], tfci: &[u8], commands: &[u8]) -> Verdict
     requires { ⌜ Ready format (length (now «data»)) (length (now tfci)) (length (now commands)) ⌝ }
-    ensures { λ r. ⌜ r ≡ chain 15 (slotFields format (now («data» .entry)) (now (tfci .entry)) (now (commands .entry))) ⌝ }
+    ensures { λ r. ⌜ r ≡ chain 15 (slotFields (formatOf format) (now («data» .entry)) (now (tfci .entry)) (now (commands .entry))) ⌝ }
 {
     let s = sizes_of(format);
     let n = s.data;

@@ -13,7 +13,7 @@ ghost use Rattle.frame.specs.Ready.{Room, Bits};
 // The first slot whose digits are refused.
 pub(crate) fn check_digits(format: usize, xs: &[u8]) -> Verdict
     requires { ⌜ length (now xs) ≡ 15 * formatOf format .slot ⌝ }
-    ensures { λ r. ⌜ r ≡ chain 15 (slotDigits format (now (xs .entry))) ⌝ }
+    ensures { λ r. ⌜ r ≡ chain 15 (slotDigits (formatOf format) (now (xs .entry))) ⌝ }
 {
     let s = sizes_of(format);
     let w = s.slot;

@@ -17,6 +17,7 @@ use Rattle.run.specs.Verdicts.{orElse, unless, each, lengths, leaves}
 use Rattle.run.proofs.Chain.{one-outcome, or-else-next, leaves-done, leaves-refused}
 use Rattle.dpch.specs.Formats.{formats, formatOf}
 use Rattle.dpch.specs.Heads.{slotHead}
+use Rattle.dpch.specs.Compressed.{pilotFor}
 use Rattle.dpch.specs.Pilots.{symbols1, symbols3, symbols5, symbols7, symbolsOf, symbolsFor, pilotOf}
 use Rattle.slot.specs.Rule.{fieldsOf, slotOf, tfciStands}
 use Rattle.slot.specs.Outcome.{mapHead, fieldsVerdict, mapVerdict}
@@ -206,5 +207,5 @@ pub end-once : EndOnce
 end-once file offset a b p q = one-outcome p q
 
 pub worked : Worked
-unfolding printed leaves headVerdict orElse unless each lengths firstBad check verdictOf byteIs present headLine decimal decimalBy records recordVerdict recordHead kindHead isKind secondVerdict byKind sizeOf recordAt mapperVerdict recordLine dpchLine endVerdict glyphs glyph tab formats formatOf mapVerdict mapHead slotHead fieldsVerdict tfciStands slotOf fieldsOf joined pilotOf symbolsFor symbolsOf symbols1 symbols3 symbols5 symbols7
+unfolding printed leaves headVerdict orElse unless each lengths firstBad check verdictOf byteIs present headLine decimal decimalBy records recordVerdict recordHead kindHead isKind secondVerdict byKind sizeOf recordAt mapperVerdict recordLine dpchLine endVerdict glyphs glyph tab formats formatOf mapVerdict mapHead slotHead fieldsVerdict tfciStands slotOf fieldsOf joined pilotFor pilotOf symbolsFor symbolsOf symbols1 symbols3 symbols5 symbols7
 worked = record { example = refl }

@@ -8,8 +8,7 @@ use borrow.Author.Tests.{eqb-true, eq-eqb, ne-eqb}
 use lib.Dec.{eqb}
 use Rattle.run.specs.Fields.{total}
 use Rattle.dpch.specs.Formats.{formatOf}
-use Rattle.dpch.specs.Layouts.{downlinkDpch}
-use Rattle.dpch.proofs.Exact.{fields-fill, format-sizes}
+use Rattle.dpch.proofs.Exact.{normal-fill, format-sizes}
 use Rattle.slot.specs.Rule.{dataSize}
 use Rattle.kinds.specs.Rule.{aichKind, pichKind, dpchKind, isKind, byKind, sizeOf}
 
@@ -56,7 +55,7 @@ pub size-small : (kind second : ℕ) → second < 256 → sizeOf kind second ≤
 unfolding sizeOf byKind total
 size-small kind second h =
     let f = formatOf second in
-    let fills = fields-fill downlinkDpch second in
+    let fills = normal-fill second in
     let short = format-sizes second .short in
     let d : 4 + f .tfci + (f .data1 + f .data2) ≤ 1284 = omega arith in
     pick (eqb kind 1) (eqb kind 2) d

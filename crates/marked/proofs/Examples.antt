@@ -10,6 +10,7 @@ use Rattle.run.specs.Verdicts.{orElse, unless, each, lengths, leaves}
 use Rattle.whole.specs.Sum.{sum}
 use Rattle.dpch.specs.Formats.{formats, formatOf}
 use Rattle.dpch.specs.Heads.{slotHead}
+use Rattle.dpch.specs.Compressed.{pilotFor}
 use Rattle.dpch.specs.Pilots.{symbols1, symbols3, symbols5, symbols7, symbolsOf, symbolsFor, pilotOf}
 use Rattle.slot.specs.Rule.{fieldsOf, slotOf, tfciStands}
 use Rattle.slot.specs.Outcome.{mapHead, fieldsVerdict, mapVerdict as slotVerdict}
@@ -26,5 +27,5 @@ use Rattle.combiner.specs.Demand3.{clean}
 use Rattle.marked.specs.Table.{table, MarkedExamples}
 
 pub marked-examples : MarkedExamples
-unfolding table leaves orElse unless each lengths firstBad between tab joined sum ones formats formatOf symbols1 symbols3 symbols5 symbols7 symbolsOf symbolsFor pilotOf fieldsOf slotOf tfciStands slotHead mapHead fieldsVerdict slotVerdict sttd barDigit digitsVerdict isNp qOf qVerdict isPlus sign valueAt valuesOf correlation unit indicatorsIn aichVerdict given readHead aichReadVerdict partOf combinedAt combined numberOf numbersOf someGain combineHead combineBody combineVerdict clean
+unfolding table leaves orElse unless each lengths firstBad between tab joined sum ones formats formatOf symbols1 symbols3 symbols5 symbols7 symbolsOf symbolsFor pilotFor pilotOf fieldsOf slotOf tfciStands slotHead mapHead fieldsVerdict slotVerdict sttd barDigit digitsVerdict isNp qOf qVerdict isPlus sign valueAt valuesOf correlation unit indicatorsIn aichVerdict given readHead aichReadVerdict partOf combinedAt combined numberOf numbersOf someGain combineHead combineBody combineVerdict clean
 marked-examples slot tpc tfci d lent = record { all-twelve = refl; as-said = refl }

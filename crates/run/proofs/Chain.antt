@@ -4,7 +4,7 @@ use mathlib.Core.Path.{_≡_, refl, sym, ap, _∙_}
 use mathlib.Core.Bool.{Bool, true, false, cond, _&&_}
 use mathlib.Core.List.{List, [], _∷_}
 use Prim.Native.Nat.{ℕ, zero, suc, _+_, _<_, suc-le-suc}
-use native.Mathlib.Nat.{zero-add, not-suc-le-zero, le-of-suc-le-suc}
+use native.Mathlib.Nat.{zero-add, suc-add, not-suc-le-zero, le-of-suc-le-suc}
 use native.Mathlib.Omega.{arith}
 use borrow.Author.Tests.{eqb-true, eqb-false, eq-eqb, ne-eqb, leb-false, lt-leb}
 use lib.Dec.{eqb, leb, lit<}
@@ -180,6 +180,24 @@ chain-hit (suc n) v zero l before h = or-else-refused _ _ h
 chain-hit (suc n) v (suc k) l before h =
     or-else-next _ _ (before 0 (omega arith))
     ∙ chain-hit n (λ (j : ℕ). v (suc j)) k (le-of-suc-le-suc l) (λ j m. before (suc j) (suc-le-suc m)) h
+
+-- verdicts that are the same one by one
+pub chain-same : (n : ℕ) (v w : ℕ → Verdict) → ((k : ℕ) → k < n → v k ≡ w k) → chain n v ≡ chain n w
+unfolding chain
+chain-same zero v w h = refl
+chain-same (suc n) v w h =
+    let rest = chain-same n (λ (k : ℕ). v (suc k)) (λ (k : ℕ). w (suc k)) (λ k l. h (suc k) (suc-le-suc l)) in
+    rw (h 0 (omega arith), rest)
+
+-- m + n verdicts of which the first m refuse nothing are the n after them
+pub chain-goes-on : (m n : ℕ) (v : ℕ → Verdict) → ((k : ℕ) → k < m → v k .number ≡ 0) → chain (m + n) v ≡ chain n (λ (k : ℕ). v (m + k))
+unfolding chain
+chain-goes-on zero n v h = ap (λ (j : ℕ). chain j v) (zero-add n) ∙ chain-same n v (λ (k : ℕ). v (0 + k)) (λ k l. ap v (sym (zero-add k)))
+chain-goes-on (suc m) n v h =
+    ap (λ (j : ℕ). chain j v) (suc-add m n)
+    ∙ or-else-next _ _ (h 0 (omega arith))
+    ∙ chain-goes-on m n (λ (k : ℕ). v (suc k)) (λ k l. h (suc k) (suc-le-suc l))
+    ∙ chain-same n (λ (k : ℕ). v (suc (m + k))) (λ (k : ℕ). v (suc m + k)) (λ k l. ap v (sym (suc-add m k)))
 
 -- a check that counts its places from 0, as a scan's answer gives it
 pub each-here : (number : ℕ) (ok : ℕ → Bool) (n : ℕ) → each 0 number ok n ≡ unless (all n ok) number (firstBad ok n)

@@ -15,3 +15,4 @@ pub mod Stretch
 pub mod Frames
 pub mod Never
 pub mod Pairs
+pub mod Count

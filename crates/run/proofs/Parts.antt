@@ -3,11 +3,11 @@
 use mathlib.Core.Path.{_≡_, refl, sym, ap, ap₂, _∙_, fun-ext}
 use mathlib.Core.List.{List, [], _∷_, _++_}
 use Prim.Native.Nat.{ℕ, zero, suc, _+_, _-_, _*_, _≤_, _<_, suc-le-suc}
-use native.Mathlib.Nat.{zero-mul, suc-mul, mul-le-mul-right, add-comm, not-suc-le-zero, le-of-suc-le-suc}
+use native.Mathlib.Nat.{zero-mul, suc-mul, add-mul, mul-le-mul-right, add-comm, not-suc-le-zero, le-of-suc-le-suc}
 use native.Mathlib.Numerals.{add-one}
 use native.Mathlib.Omega.{arith}
 use lib.ListN.{length, getD, take, drop, length-append, length-drop, take-append-drop}
-use lib.Seq.{take-at, drop-at, drop-drop, length-take-le, getD-take, getD-drop}
+use lib.Seq.{take-at, take-add, take-take, drop-at, drop-drop, take-append-le, drop-append-le, length-take-le, getD-take, getD-drop}
 use Rattle.run.specs.Fields.{joined}
 use Rattle.run.specs.Parts.{part}
 use Rattle.run.specs.Table.{tab}
@@ -72,6 +72,19 @@ module _ {A : Type 0} where
       ap (λ (x : List A). take n x)
       (ap (λ (j : ℕ). drop j s) (suc-mul k n ∙ add-comm (k * n) n) ∙ sym (drop-drop (k * n) n s))
 
+  -- part i of the k parts from part j on is part j + i of the run
+  pub part-within : (i j k n : ℕ) (s : List A) → i < k → (j + k) * n ≤ length s → part i n (take (k * n) (drop (j * n) s)) ≡ part (j + i) n s
+  unfolding part
+  part-within i j k n s h room =
+      let r = part-room i k n h in
+      let sum = add-mul j k n in
+      let rest : List A = drop (j * n) s in
+      let cut : i * n + (k * n - i * n) ≡ k * n = omega arith in
+      ap (λ (l : List A). take n (drop (i * n) l)) (ap (λ (c : ℕ). take c rest) (sym cut) ∙ take-add (i * n) (k * n - i * n) rest)
+      ∙ ap (take n) (drop-at (take (i * n) rest) (take (k * n - i * n) (drop (i * n) rest)) (i * n) (length-take-le (i * n) rest (simp length-drop (omega arith))))
+      ∙ take-take n (k * n - i * n) (drop (i * n) rest) (omega arith)
+      ∙ ap (take n) (drop-drop (i * n) (j * n) s ∙ ap (λ (c : ℕ). drop c s) (sym (add-mul j i n)))
+
   -- a run is the join of its parts
   pub joined-part : (m n : ℕ) (s : List A) → length s ≡ m * n → joined (tab m (λ (k : ℕ). part k n s)) ≡ s
   unfolding part joined tab
@@ -83,3 +96,19 @@ module _ {A : Type 0} where
       ap₂ (λ (x y : List A). x ++ y) (ap (λ (j : ℕ). take n (drop j s)) (zero-mul n))
       (ap (λ (f : ℕ → List A). joined (tab m f)) (fun-ext (part-rest n s)) ∙ joined-part m n (drop n s) left)
       ∙ take-append-drop n s
+
+  -- parts of two runs one after the other, of which the first is made of m parts
+  pub part-front : (k m n : ℕ) (s t : List A) → k < m → length s ≡ m * n → part k n (s ++ t) ≡ part k n s
+  unfolding part
+  part-front k m n s t h e =
+      let r = part-room k m n h in
+      let room : n ≤ length (drop (k * n) s) = simp length-drop (omega arith) in
+      ap (λ (x : List A). take n x) (drop-append-le (k * n) s t (omega arith)) ∙ take-append-le n (drop (k * n) s) t room
+
+  pub part-behind : (m k n : ℕ) (s t : List A) → length s ≡ m * n → part (m + k) n (s ++ t) ≡ part k n t
+  unfolding part
+  part-behind m k n s t e =
+      ap (λ (x : List A). take n x)
+      (ap (λ (j : ℕ). drop j (s ++ t)) (add-mul m k n)
+      ∙ sym (drop-drop (k * n) (m * n) (s ++ t))
+      ∙ ap (λ (x : List A). drop (k * n) x) (drop-at s t (m * n) e))

@@ -8,3 +8,4 @@ pub mod Parts
 pub mod Written
 pub mod Ranges
 pub mod Pairs
+pub mod Count

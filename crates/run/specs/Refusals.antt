@@ -34,7 +34,7 @@ pilotRefused = 7
 abbrev pub npRefused : ℕ
 npRefused = 8
 
--- 9: PICH or P-CCPCH frame, or second stream of a DPCH slot, that no fields give
+-- 9: PICH or P-CCPCH frame, second stream of a DPCH slot or HS-PDSCH subframe, or missing slot of a compressed frame, that no fields give
 abbrev pub frameRefused : ℕ
 frameRefused = 9
 
@@ -77,3 +77,11 @@ bytesAfterRefused = 25
 -- 26: a nonzero indicator of a signature that is not available
 abbrev pub signatureRefused : ℕ
 signatureRefused = 26
+
+-- 27: a gap that leaves too few or too many slots of a compressed frame, or runs past slot 14
+abbrev pub gapRefused : ℕ
+gapRefused = 27
+
+-- 32: a count of frames that stands at 4294967295
+abbrev pub countRefused : ℕ
+countRefused = 32

@@ -16,7 +16,7 @@ pub const TFCI: usize = 6;
 pub const PILOT: usize = 7;
 // 8: Np not 18, 36, 72, 144.
 pub const NP: usize = 8;
-// 9: PICH or P-CCPCH frame, or second stream of a DPCH slot, that no fields give.
+// 9: PICH or P-CCPCH frame, second stream of a DPCH slot or HS-PDSCH subframe, or missing slot of a compressed frame, that no fields give.
 pub const FRAME: usize = 9;
 // 10: AICH values that no indicators give.
 pub const VALUES: usize = 10;
@@ -38,3 +38,7 @@ pub const ENDS_EARLY: usize = 24;
 pub const BYTES_AFTER: usize = 25;
 // 26: a nonzero indicator of a signature that is not available.
 pub const SIGNATURE: usize = 26;
+// 27: a gap that leaves too few or too many slots of a compressed frame, or runs past slot 14.
+pub const GAP: usize = 27;
+// 32: a count of frames that stands at 4294967295.
+pub const COUNT: usize = 32;

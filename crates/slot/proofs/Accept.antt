@@ -1,23 +1,24 @@
 -- What is known of a slot's numbers, lengths and digits where no check refuses them.
 -- Assumes nothing.
 use mathlib.Core.Path.{_≡_}
-use mathlib.Core.Bool.{Bool, true}
+use mathlib.Core.Bool.{Bool, true, _&&_}
 use mathlib.Core.List.{List}
-use Prim.Native.Nat.{ℕ, _≤_}
+use Prim.Native.Nat.{ℕ, _<_, _≤_}
 use native.Mathlib.Omega.{arith}
-use borrow.Author.Tests.{eqb-true, leb-true, le-leb, eq-eqb}
-use lib.Dec.{eqb, lit<}
+use borrow.Author.Tests.{eqb-true, leb-true, ltb-true, le-leb, lt-ltb, eq-eqb}
+use lib.Dec.{eqb, ltb, lit<}
 use lib.ListN.{length}
 use Rattle.run.specs.First.{Every, atMost, likeFirst, agree}
 use Rattle.run.specs.Verdicts.{done}
 use Rattle.run.proofs.Chain.{four-done, or-else-done, unless-done, each-done, or-else-pass, unless-pass, each-pass}
+use Rattle.run.proofs.Bools.{and-left, and-right}
 use Rattle.dpch.specs.declared.Format.{Format}
 use Rattle.dpch.specs.Formats.{formatOf}
-use Rattle.dpch.specs.Pilots.{pilotOf}
+use Rattle.dpch.specs.Compressed.{pilotFor}
 use Rattle.dpch.proofs.Heads.{SlotHeaded, slot-headed, slot-head-pass}
 use Rattle.slot.specs.Rule.{dataSize, tpcIn, tfciIn, pilotIn, tfciStands}
-use Rattle.slot.specs.Outcome.{mapHead, fieldsVerdict, mapVerdict, readHead, digitsVerdict, readVerdict}
-use Rattle.slot.specs.Ready.{Ready}
+use Rattle.slot.specs.Outcome.{mapHead, fieldsVerdict, mapVerdict, readHead, digitsVerdict, readVerdict, sizesAre}
+use Rattle.slot.specs.Ready.{Sound, Ready}
 use Rattle.slot.proofs.Laws.{sound-format}
 
 -- numbers and lengths
@@ -62,6 +63,32 @@ pub read-head-pass : (format slot slotLength dataLength tfciLength : ℕ) → fo
 unfolding readHead
 read-head-pass format slot slotLength dataLength tfciLength a b p q r = slot-head-pass 16 format _ slot a b (eq-eqb _ _ p, (eq-eqb _ _ q, (eq-eqb _ _ r, tt)))
 
+-- all that writing a slot of a compressed format or taking its fields stands on, and back
+pub record Sized (f : Format) (dataLength tfciLength slotLength : ℕ) : Type 0 where
+  pub there : 0 < f .kind
+  pub ready : Ready f dataLength tfciLength slotLength
+
+pub sizes-ready : (f : Format) → Sound f → (dataLength tfciLength slotLength : ℕ) → sizesAre f dataLength tfciLength slotLength ≡ true → Sized f dataLength tfciLength slotLength
+unfolding sizesAre
+sizes-ready f s dataLength tfciLength slotLength e =
+    let last = eqb tfciLength (f .tfci) && eqb slotLength (f .slot) in
+    let lengths = and-right (ltb 0 (f .kind)) (eqb dataLength (dataSize f) && last) e in
+    let later = and-right (eqb dataLength (dataSize f)) last lengths in
+    record {
+      there = ltb-true _ _ (and-left (ltb 0 (f .kind)) (eqb dataLength (dataSize f) && last) e);
+      ready = record {
+        sound = s;
+        data-ok = eqb-true _ _ (and-left (eqb dataLength (dataSize f)) last lengths);
+        tfci-ok = eqb-true _ _ (and-left (eqb tfciLength (f .tfci)) (eqb slotLength (f .slot)) later);
+        slot-ok = eqb-true _ _ (and-right (eqb tfciLength (f .tfci)) (eqb slotLength (f .slot)) later);
+      };
+    }
+
+pub sizes-pass : (f : Format) (dataLength tfciLength slotLength : ℕ) → 0 < f .kind → dataLength ≡ dataSize f → tfciLength ≡ f .tfci → slotLength ≡ f .slot
+    → sizesAre f dataLength tfciLength slotLength ≡ true
+unfolding sizesAre
+sizes-pass f dataLength tfciLength slotLength h p q r = rw (lt-ltb _ _ h, eq-eqb _ _ p, eq-eqb _ _ q, eq-eqb _ _ r)
+
 -- command, TFCI and data
 pub record FieldsOk (tpc : ℕ) (d tfci : List ℕ) : Type 0 where
   pub tpc-ok : tpc ≤ 1
@@ -95,7 +122,7 @@ pub record DigitsOk (f : Format) (slot : ℕ) (xs : List ℕ) : Type 0 where
   pub digits : Every (atMost 2 xs) (length xs)
   pub alike : Every (likeFirst (tpcIn f xs)) (length (tpcIn f xs))
   pub kinds : Every (tfciStands (tfciIn f xs)) (length (tfciIn f xs))
-  pub pilot : Every (agree (pilotIn f xs) (pilotOf (f .pilot) slot)) (length (pilotIn f xs))
+  pub pilot : Every (agree (pilotIn f xs) (pilotFor (f .kind) (f .pilot) slot)) (length (pilotIn f xs))
 
 pub digits-ok : (f : Format) (slot : ℕ) (xs : List ℕ) (base : ℕ) → digitsVerdict f slot xs base .number ≡ 0 → DigitsOk f slot xs
 unfolding digitsVerdict

@@ -23,21 +23,35 @@ use Rattle.run.proofs.Stretch.{field-copied, field-filled, field-taken}
 use Rattle.run.proofs.Front.{Front, front-none, front-copy, front-lent, front-all}
 use Rattle.dpch.specs.declared.Format.{Format}
 use Rattle.dpch.specs.Formats.{formatOf, widths}
-use Rattle.dpch.specs.Pilots.{pilotSource, pilotOf}
+use Rattle.dpch.specs.Compressed.{formatIn, pilotFor, sourceFor}
 use Rattle.dpch.specs.Layouts.{downlinkDpch}
-use Rattle.dpch.proofs.Exact.{fields-fill, format-sizes, format-pilots}
+use Rattle.dpch.proofs.Exact.{fields-fill, format-sizes, format-pilots, kind-sizes}
 use Rattle.slot.specs.Rule.{dataSize, fieldsOf, slotOf, tfciIn, dataIn, commandIn, tfciStands}
 use Rattle.slot.specs.Outcome.{digitsVerdict, partVerdict}
-use Rattle.slot.specs.Ready.{Sound, Whole}
+use Rattle.slot.specs.Ready.{Sound, Row, Whole}
 
--- every row of the table is sound
-pub sound-format : (format : ℕ) → Sound (formatOf format)
-sound-format format =
+-- every row of the table is sound, of whichever kind
+pub sound-row : (kind format : ℕ) → Sound (formatIn kind format)
+sound-row kind format =
     record {
-      fills = fields-fill downlinkDpch format;
-      short = format-sizes format .short;
-      pilot = λ slot. record { cut-from = format-pilots format slot .cut-from; enough = format-pilots format slot .enough };
+      fills = fields-fill (downlinkDpch kind) format;
+      short = kind-sizes kind format .short;
+      pilot = λ slot. record { cut-from = format-pilots kind format slot .cut-from; enough = format-pilots kind format slot .enough };
     }
+
+pub sound-format : (format : ℕ) → Sound (formatOf format)
+unfolding formatIn
+sound-format format = sound-row 0 format
+
+-- .. and those that are there are rows: the normal ones, and the compressed ones
+pub normal-row : (format : ℕ) → format ≤ 16 → Row (formatOf format)
+unfolding formatIn
+normal-row format h =
+    record { sound = sound-format format; has-tpc = format-sizes format .has-tpc (omega arith); pilot-bits = λ slot l k. format-pilots 0 format slot .digits l k }
+
+pub compressed-row : (kind format : ℕ) → 0 < formatIn kind format .kind → Row (formatIn kind format)
+compressed-row kind format h =
+    record { sound = sound-row kind format; has-tpc = kind-sizes kind format .has-tpc h; pilot-bits = λ slot l k. format-pilots kind format slot .digits l k }
 
 module _ (f : Format) where
   -- where the fields begin
@@ -67,8 +81,8 @@ module _ (f : Format) where
 
 -- a slot's fields have the widths of the table
 module _ (f : Format) (s : Sound f) (slot tpc : ℕ) (d tfci : List ℕ) (data-long : length d ≡ dataSize f) (tfci-long : length tfci ≡ f .tfci) where
-  pilot-long : length (pilotOf (f .pilot) slot) ≡ f .pilot
-  pilot-long = ap length (s .pilot slot .cut-from) ∙ length-take-le (f .pilot) (pilotSource (f .pilot) slot) (s .pilot slot .enough)
+  pub pilot-long : length (pilotFor (f .kind) (f .pilot) slot) ≡ f .pilot
+  pilot-long = ap length (s .pilot slot .cut-from) ∙ length-take-le (f .pilot) (sourceFor (f .kind) (f .pilot) slot) (s .pilot slot .enough)
 
   pub fields-widths : map length (fieldsOf f slot tpc d tfci) ≡ widths f
   unfolding fieldsOf
@@ -125,7 +139,7 @@ module _ (f : Format) (s : Sound f) (slot tpc : ℕ) (d tfci : List ℕ) (data-l
         rest h (omega arith) e (take-all (f .data2) rest (omega arith) ∙ r)
 
     pilot-written : (x y : List ℕ) → Front (slotOf f slot tpc d tfci) out x (f .data1 + f .tpc + f .tfci + f .data2)
-        → y ≡ over (pilotSource (length (midOf (f .data1 + f .tpc + f .tfci + f .data2) (f .data1 + f .tpc + f .tfci + f .data2 + f .pilot - (f .data1 + f .tpc + f .tfci + f .data2)) x)) slot)
+        → y ≡ over (sourceFor (f .kind) (length (midOf (f .data1 + f .tpc + f .tfci + f .data2) (f .data1 + f .tpc + f .tfci + f .data2 + f .pilot - (f .data1 + f .tpc + f .tfci + f .data2)) x)) slot)
         (midOf (f .data1 + f .tpc + f .tfci + f .data2) (f .data1 + f .tpc + f .tfci + f .data2 + f .pilot - (f .data1 + f .tpc + f .tfci + f .data2)) x)
         → putMid (f .data1 + f .tpc + f .tfci + f .data2) (f .data1 + f .tpc + f .tfci + f .data2 + f .pilot - (f .data1 + f .tpc + f .tfci + f .data2)) x y
         ≡ slotOf f slot tpc d tfci
@@ -137,7 +151,7 @@ module _ (f : Format) (s : Sound f) (slot tpc : ℕ) (d tfci : List ℕ) (data-l
         let lent = front-lent at (at + f .pilot) h (omega arith) ∙ part-width at (f .pilot) in
         front-all
         (field-copied (widths f) (fieldsOf f slot tpc d tfci) fields-widths out room 4 at (at + f .pilot) (lit< tt) (sym (start-pilot f)) refl
-        (pilotSource (f .pilot) slot) h (p .enough) (e ∙ ap (λ (k : ℕ). over (pilotSource k slot) (midOf at (at + f .pilot - at) x)) lent) (sym (p .cut-from)))
+        (sourceFor (f .kind) (f .pilot) slot) h (p .enough) (e ∙ ap (λ (k : ℕ). over (sourceFor (f .kind) k slot) (midOf at (at + f .pilot - at) x)) lent) (sym (p .cut-from)))
         (omega arith)
 
     -- the run after each part
@@ -160,7 +174,7 @@ module _ (f : Format) (s : Sound f) (slot tpc : ℕ) (d tfci : List ℕ) (data-l
         → y2 ≡ replicate (length (midOf (f .data1) (f .data1 + f .tpc - f .data1) (after1 y1))) tpc
         → y3 ≡ over tfci (midOf (f .data1 + f .tpc) (f .data1 + f .tpc + f .tfci - (f .data1 + f .tpc)) (after2 y1 y2))
         → y4 ≡ over rest (midOf (f .data1 + f .tpc + f .tfci) (f .data1 + f .tpc + f .tfci + f .data2 - (f .data1 + f .tpc + f .tfci)) (after3 y1 y2 y3))
-        → y5 ≡ over (pilotSource (length (midOf (f .data1 + f .tpc + f .tfci + f .data2) (f .data1 + f .tpc + f .tfci + f .data2 + f .pilot - (f .data1 + f .tpc + f .tfci + f .data2)) (after4 y1 y2 y3 y4))) slot)
+        → y5 ≡ over (sourceFor (f .kind) (length (midOf (f .data1 + f .tpc + f .tfci + f .data2) (f .data1 + f .tpc + f .tfci + f .data2 + f .pilot - (f .data1 + f .tpc + f .tfci + f .data2)) (after4 y1 y2 y3 y4))) slot)
         (midOf (f .data1 + f .tpc + f .tfci + f .data2) (f .data1 + f .tpc + f .tfci + f .data2 + f .pilot - (f .data1 + f .tpc + f .tfci + f .data2)) (after4 y1 y2 y3 y4))
         → putMid (f .data1 + f .tpc + f .tfci + f .data2) (f .data1 + f .tpc + f .tfci + f .data2 + f .pilot - (f .data1 + f .tpc + f .tfci + f .data2)) (after4 y1 y2 y3 y4) y5
         ≡ slotOf f slot tpc d tfci
@@ -218,17 +232,15 @@ module _ (f : Format) (xs : List ℕ) (w : Whole f (length xs)) where
       let whole = w .slot-ok in
       field-taken (widths f) xs 2 (f .data1 + f .tpc) (f .data1 + f .tpc + f .tfci) (lit< tt) (sym (start-tfci f)) refl (omega arith) out y long e
 
-pub data-small : (format : ℕ) → dataSize (formatOf format) ≤ 1280
-data-small format =
-    let s = sound-format format in
-    let n = sum (formatOf format) s in
+pub data-small : (f : Format) → Sound f → dataSize f ≤ 1280
+data-small f s =
+    let n = sum f s in
     let short = s .short in
     omega arith
 
-pub tfci-small : (format : ℕ) → formatOf format .tfci ≤ 1280
-tfci-small format =
-    let s = sound-format format in
-    let n = sum (formatOf format) s in
+pub tfci-small : (f : Format) → Sound f → f .tfci ≤ 1280
+tfci-small f s =
+    let n = sum f s in
     let short = s .short in
     omega arith
 
@@ -251,7 +263,6 @@ module _ (tfci : List ℕ) where
   tfci-silent n h = first-same _ _ n (λ k _. rw (eq-eqb (getD tfci 0 0) dtx h) (alike (eqb (getD tfci k 0) dtx)))
 
 -- a run that is a slot is checked digit by digit
-pub part-whole : (format slot : ℕ) (xs : List ℕ) (base : ℕ) → length xs ≡ formatOf format .slot
-    → partVerdict format slot xs base ≡ digitsVerdict (formatOf format) slot xs base
+pub part-whole : (f : Format) (slot : ℕ) (xs : List ℕ) (base : ℕ) → length xs ≡ f .slot → partVerdict f slot xs base ≡ digitsVerdict f slot xs base
 unfolding partVerdict
-part-whole format slot xs base e = or-else-next _ _ (number-0 (unless-pass 3 0 (eq-eqb _ _ e)))
+part-whole f slot xs base e = or-else-next _ _ (number-0 (unless-pass 3 0 (eq-eqb _ _ e)))

@@ -1,3 +1,4 @@
 pub mod Laws
 pub mod Accept
+pub mod Rows
 pub mod Exact

@@ -2,9 +2,10 @@
 -- Assumes nothing.
 use Prim.Native.Nat.{ℕ, _+_}
 use mathlib.Core.Path.{_≡_}
+use mathlib.Core.Bool.{Bool, cond, _&&_}
 use mathlib.Core.List.{List, [], _∷_}
 use lib.ListN.{length}
-use lib.Dec.{eqb, leb}
+use lib.Dec.{eqb, leb, ltb}
 use Rattle.run.specs.declared.Verdict.{Verdict}
 use Rattle.run.specs.First.{atMost, likeFirst, agree}
 use Rattle.run.specs.Fields.{start}
@@ -14,7 +15,7 @@ use Rattle.dpch.specs.declared.Format.{Format}
 use Rattle.dpch.specs.declared.Command.{Command}
 use Rattle.dpch.specs.Formats.{formatOf, widths}
 use Rattle.dpch.specs.Heads.{slotHead}
-use Rattle.dpch.specs.Pilots.{pilotOf}
+use Rattle.dpch.specs.Compressed.{pilotFor}
 use Rattle.slot.specs.Rule.{dataSize, slotOf, tpcIn, tfciIn, pilotIn, dataIn, commandIn, tfciStands}
 
 -- map: 1, 2, 3 (data, TFCI, output) ..
@@ -62,7 +63,7 @@ digitsVerdict f slot xs base =
     orElse (each base digitRefused (atMost 2 xs) (length xs))
     (orElse (each (base + start 1 (widths f)) tpcRefused (likeFirst (tpcIn f xs)) (length (tpcIn f xs)))
     (orElse (each (base + start 2 (widths f)) tfciRefused (tfciStands (tfciIn f xs)) (length (tfciIn f xs)))
-    (each (base + start 4 (widths f)) pilotRefused (agree (pilotIn f xs) (pilotOf (f .pilot) slot)) (length (pilotIn f xs)))))
+    (each (base + start 4 (widths f)) pilotRefused (agree (pilotIn f xs) (pilotFor (f .kind) (f .pilot) slot)) (length (pilotIn f xs)))))
 
 unfoldable pub readVerdict : ℕ → ℕ → List ℕ → ℕ → ℕ → Verdict
 readVerdict format slot xs dataLength tfciLength =
@@ -74,10 +75,9 @@ pub record Read (format slot : ℕ) (xs d tfci : List ℕ) (answer : Command) (d
   pub data-is : d-after ≡ leaves (readVerdict format slot xs (length d) (length tfci)) (dataIn (formatOf format) xs) d
   pub tfci-is : tfci-after ≡ leaves (readVerdict format slot xs (length d) (length tfci)) (tfciIn (formatOf format) xs) tfci
 
--- the part that checks a slot's digits, with places counted from base: a run that is no slot of the format is refused as such
-unfoldable pub partVerdict : ℕ → ℕ → List ℕ → ℕ → Verdict
-partVerdict format slot xs base =
-    orElse (unless (eqb (length xs) (formatOf format .slot)) lengthRefused 0) (digitsVerdict (formatOf format) slot xs base)
+-- the part that checks a slot's digits, with places counted from base: a run that is no slot of the row is refused as such
+unfoldable pub partVerdict : Format → ℕ → List ℕ → ℕ → Verdict
+partVerdict f slot xs base = orElse (unless (eqb (length xs) (f .slot)) lengthRefused 0) (digitsVerdict f slot xs base)
 
 -- the part that takes the fields out of a slot with no look at their digits
 pub record Take (format slot : ℕ) (xs d tfci : List ℕ) (answer : Command) (d-after tfci-after : List ℕ) : Type 0 where
@@ -85,3 +85,20 @@ pub record Take (format slot : ℕ) (xs d tfci : List ℕ) (answer : Command) (d
   pub command-is : answer .tpc ≡ leaves (readHead format slot (length xs) (length d) (length tfci)) (commandIn (formatOf format) xs) 0
   pub data-is : d-after ≡ leaves (readHead format slot (length xs) (length d) (length tfci)) (dataIn (formatOf format) xs) d
   pub tfci-is : tfci-after ≡ leaves (readHead format slot (length xs) (length d) (length tfci)) (tfciIn (formatOf format) xs) tfci
+
+-- ---- the parts for a row of a compressed format: they ask no slot number and answer no verdict
+
+-- whether the row is one of a compressed format, and data, TFCI and slot have its lengths
+unfoldable pub sizesAre : Format → ℕ → ℕ → ℕ → Bool
+sizesAre f dataLength tfciLength slotLength =
+    ltb 0 (f .kind) && (eqb dataLength (dataSize f) && (eqb tfciLength (f .tfci) && eqb slotLength (f .slot)))
+
+-- .. that writes a slot with no look at its digits; where the lengths are others, nothing is written
+pub record PutRow (f : Format) (slot tpc : ℕ) (d tfci out out-after : List ℕ) : Type 0 where
+  pub out-is : out-after ≡ cond (sizesAre f (length d) (length tfci) (length out)) (slotOf f slot tpc d tfci) out
+
+-- .. that takes the fields out of a slot with no look at their digits; where the lengths are others the command is 0 and nothing is taken
+pub record TakeRow (f : Format) (xs d tfci : List ℕ) (command : ℕ) (d-after tfci-after : List ℕ) : Type 0 where
+  pub command-is : command ≡ cond (sizesAre f (length d) (length tfci) (length xs)) (commandIn f xs) 0
+  pub data-is : d-after ≡ cond (sizesAre f (length d) (length tfci) (length xs)) (dataIn f xs) d
+  pub tfci-is : tfci-after ≡ cond (sizesAre f (length d) (length tfci) (length xs)) (tfciIn f xs) tfci

@@ -9,16 +9,16 @@ use Rattle.run.specs.Digits.{dtx}
 use Rattle.run.specs.Fields.{joined, field}
 use Rattle.dpch.specs.declared.Format.{Format}
 use Rattle.dpch.specs.Formats.{widths}
-use Rattle.dpch.specs.Pilots.{pilotOf}
+use Rattle.dpch.specs.Compressed.{pilotFor}
 
 -- data is one run, Data1's digits before Data2's
 abbrev pub dataSize : Format → ℕ
 dataSize f = f .data1 + f .data2
 
--- the fields in their order: Data1, TPC, every digit of which is the command, TFCI, Data2, pilot
+-- the fields in their order: Data1, TPC, every digit of which is the command, TFCI, Data2, pilot. The row may be of any kind; a pair of equal TPC bits stands twice in B as it is
 unfoldable pub fieldsOf : Format → ℕ → ℕ → List ℕ → List ℕ → List (List ℕ)
 fieldsOf f slot tpc d tfci =
-    take (f .data1) d ∷ replicate (f .tpc) tpc ∷ tfci ∷ drop (f .data1) d ∷ pilotOf (f .pilot) slot ∷ []
+    take (f .data1) d ∷ replicate (f .tpc) tpc ∷ tfci ∷ drop (f .data1) d ∷ pilotFor (f .kind) (f .pilot) slot ∷ []
 
 -- the slot: each field begins where the field before it ends
 unfoldable pub slotOf : Format → ℕ → ℕ → List ℕ → List ℕ → List ℕ

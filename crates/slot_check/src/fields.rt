@@ -1,5 +1,6 @@
 // The fields of a slot: each is checked in its own stretch of the slot.
 use dpch::Format;
+use dpch::KIND_B;
 use run::Verdict;
 use run::found;
 use run::or_else;
@@ -11,12 +12,14 @@ ghost use lib.Dec.{leb};
 ghost use lib.ListN.{length};
 ghost use Rattle.run.specs.First.{firstBad, agree};
 ghost use Rattle.run.specs.Verdicts.{unless};
+ghost use Rattle.dpch.specs.Formats.{kindB};
 ghost use Rattle.dpch.specs.Pilots.{pilotSource};
+ghost use Rattle.dpch.specs.Compressed.{sourceFor};
 ghost use Rattle.slot.specs.Outcome.{digitsVerdict};
 ghost use Rattle.slot.specs.Ready.{Whole};
 
 // The first place at which a pilot field differs from the slot's pilot.
-fn pilot_differs(s: &[u8], slot: usize) -> usize
+fn plain_differs(s: &[u8], slot: usize) -> usize
     ensures { λ r. ⌜ r ≡ firstBad (agree (now (s .entry)) (pilotSource (length (now (s .entry))) slot)) (min (length (now (s .entry))) (length (pilotSource (length (now (s .entry))) slot))) ⌝ }
 {
     let row = dpch::pilot_row(0, slot);
@@ -24,6 +27,29 @@ fn pilot_differs(s: &[u8], slot: usize) -> usize
         scan::first_diff(s, &row[2..4])
     } else {
         scan::first_diff(s, &row)
+    }
+}
+
+// .. of a format B, in which each pair of bits stands twice.
+fn doubled_differs(s: &[u8], slot: usize) -> usize
+    ensures { λ r. ⌜ r ≡ firstBad (agree (now (s .entry)) (sourceFor kindB (length (now (s .entry))) slot)) (min (length (now (s .entry))) (length (sourceFor kindB (length (now (s .entry))) slot))) ⌝ }
+{
+    let row = dpch_rows::doubled_row(slot);
+    if s.len() == 4 {
+        scan::first_diff(s, &row[4..8])
+    } else {
+        scan::first_diff(s, &row)
+    }
+}
+
+// .. of a format's kind.
+fn pilot_differs(s: &[u8], kind: usize, slot: usize) -> usize
+    ensures { λ r. ⌜ r ≡ firstBad (agree (now (s .entry)) (sourceFor kind (length (now (s .entry))) slot)) (min (length (now (s .entry))) (length (sourceFor kind (length (now (s .entry))) slot))) ⌝ }
+{
+    if kind == KIND_B {
+        doubled_differs(s, slot)
+    } else {
+        plain_differs(s, slot)
     }
 }
 
@@ -55,7 +81,13 @@ pub(crate) fn check(f: Format, slot: usize, xs: &[u8], base: u32) -> Verdict
     let d = c + f.data2;
     let e = d + f.pilot;
     let pilot = &xs[d..e];
-    let last = placed(pilot, pilot_differs(pilot, slot), refusal::PILOT, base, d);
+    let last = placed(
+        pilot,
+        pilot_differs(pilot, f.kind, slot),
+        refusal::PILOT,
+        base,
+        d,
+    );
     let tfci = &xs[b..c];
     let kinds = or_else(
         placed(tfci, first_mixed(tfci), refusal::TFCI, base, b),

@@ -1,7 +1,7 @@
 -- What a look at a field of constant width says of the field's check, and what the looks together say of the verdict.
 -- Assumes nothing.
 use mathlib.Core.Path.{_≡_, refl, sym, ap, _∙_}
-use mathlib.Core.Bool.{Bool, true, false, cond, not, _&&_, Bool·beq}
+use mathlib.Core.Bool.{Bool, true, false, cond, not, _&&_, Bool·beq, true≢false}
 use mathlib.Core.List.{List}
 use Prim.Native.Nat.{ℕ, _+_, _-_, _<_}
 use native.Mathlib.Nat.{not-suc-le-zero}
@@ -17,9 +17,10 @@ use Rattle.run.proofs.First.{first-is, first-same}
 use Rattle.run.proofs.Chain.{or-else-done, unless-done, or-else-pass, unless-pass, each-fits}
 use Rattle.run.proofs.Fields.{field-lent}
 use Rattle.dpch.specs.declared.Format.{Format}
-use Rattle.dpch.specs.Formats.{formatOf, widths}
+use Rattle.dpch.specs.Formats.{kindB, widths}
 use Rattle.dpch.specs.Pilots.{pilotRow, symbolsOf, symbolsFor, pilotOf}
-use Rattle.dpch.proofs.Exact.{at-each}
+use Rattle.dpch.specs.Compressed.{formatIn, pairsTwice, pilotFor}
+use Rattle.dpch.proofs.Exact.{at-rows}
 use Rattle.slot.specs.Rule.{tfciStands}
 use Rattle.slot.specs.Outcome.{partVerdict}
 use Rattle.slot.specs.Ready.{Whole}
@@ -67,9 +68,9 @@ unfolding tfciStands
 tfci-told s n e told = told ∙ ap (λ (m : ℕ). all m (kindAt (eqb (getD s 0 0) 2) s)) (sym e)
 
 -- a pilot field of n digits, compared with the beginning of a run that begins with the pilot
-pub pilot-told : (s source : List ℕ) (slot n : ℕ) {r : Bool} → length s ≡ n → firstBad (agree s source) n ≡ firstBad (agree s (pilotOf n slot)) n
-    → r ≡ all n (agree s source) → r ≡ all (length s) (agree s (pilotOf (length s) slot))
-pilot-told s source slot n e same told = rw e (told ∙ ap (leb n) same)
+pub pilot-told : (pilot : ℕ → List ℕ) (s source : List ℕ) (n : ℕ) {r : Bool} → length s ≡ n → firstBad (agree s source) n ≡ firstBad (agree s (pilot n)) n
+    → r ≡ all n (agree s source) → r ≡ all (length s) (agree s (pilot (length s)))
+pilot-told pilot s source n e same told = rw e (told ∙ ap (leb n) same)
 
 -- the pilot of 4, 8 and 16 bits begins the row, and that of 2 bits is its second symbol
 module _ (s : List ℕ) (slot : ℕ) where
@@ -89,15 +90,48 @@ module _ (s : List ℕ) (slot : ℕ) where
   unfolding pilotRow pilotOf symbolsFor symbolsOf joined
   pilot-16 = refl
 
--- the pilot of every format has one of the widths
-pub pilot-width : (format : ℕ) → PilotWidth (formatOf format .pilot)
+  -- .. in B the pilot of 8, 16 and 32 bits begins the doubled row, and that of 4 bits is its second symbol, doubled
+  pub doubled-4 : firstBad (agree s (take 4 (drop 4 (pairsTwice (pilotRow slot))))) 4 ≡ firstBad (agree s (pilotFor kindB 4 slot)) 4
+  unfolding pilotRow pilotOf pilotFor pairsTwice symbolsFor symbolsOf joined firstBad
+  doubled-4 = refl
+
+  pub doubled-8 : firstBad (agree s (pairsTwice (pilotRow slot))) 8 ≡ firstBad (agree s (pilotFor kindB 8 slot)) 8
+  unfolding pilotRow pilotOf pilotFor pairsTwice symbolsFor symbolsOf joined firstBad
+  doubled-8 = refl
+
+  pub doubled-16 : firstBad (agree s (pairsTwice (pilotRow slot))) 16 ≡ firstBad (agree s (pilotFor kindB 16 slot)) 16
+  unfolding pilotRow pilotOf pilotFor pairsTwice symbolsFor symbolsOf joined firstBad
+  doubled-16 = refl
+
+  pub doubled-32 : firstBad (agree s (pairsTwice (pilotRow slot))) 32 ≡ firstBad (agree s (pilotFor kindB 32 slot)) 32
+  unfolding pilotRow pilotOf pilotFor pairsTwice symbolsFor symbolsOf joined
+  doubled-32 = refl
+
+-- the pilot of every row has one of the widths of its kind
+plain-width : (n kind : ℕ) → eqb kind 2 ≡ false → ((n ≡ 2 → ⊥) → (n ≡ 4 → ⊥) → (n ≡ 8 → ⊥) → (n ≡ 16 → ⊥) → n ≡ 0) → PilotWidth kind n
+plain-width n kind e none = record { none = λ _. none; none-doubled = λ h. absurd (true≢false (sym (eq-eqb kind 2 h) ∙ e)) }
+
+-- a kind that is not B has the widths of the normal formats
+pub width-plain : (kind n : ℕ) → (kind ≡ 2 → ⊥) → PilotWidth kind n → PilotWidth 0 n
+width-plain kind n h w = plain-width n 0 refl (w .none h)
+
+doubled-width : (n : ℕ) → ((n ≡ 4 → ⊥) → (n ≡ 8 → ⊥) → (n ≡ 16 → ⊥) → (n ≡ 32 → ⊥) → n ≡ 0) → PilotWidth 2 n
+doubled-width n none = record { none = λ h. absurd (h refl); none-doubled = λ _. none }
+
+pub pilot-width : (kind format : ℕ) → PilotWidth (formatIn kind format .kind) (formatIn kind format .pilot)
 pilot-width =
-    at-each PilotWidth
-    (record { none = λ a b c d. refl })
-    (record { none = λ a b c d. absurd (a refl) })
-    (record { none = λ a b c d. absurd (b refl) })
-    (record { none = λ a b c d. absurd (c refl) })
-    (record { none = λ a b c d. absurd (d refl) })
+    at-rows PilotWidth
+    (λ kind e. (
+      plain-width 0 kind e (λ a b c d. refl),
+      plain-width 2 kind e (λ a b c d. absurd (a refl)),
+      plain-width 4 kind e (λ a b c d. absurd (b refl)),
+      plain-width 8 kind e (λ a b c d. absurd (c refl)),
+      plain-width 16 kind e (λ a b c d. absurd (d refl)),
+    ))
+    (doubled-width 4 (λ a b c d. absurd (a refl)))
+    (doubled-width 8 (λ a b c d. absurd (b refl)))
+    (doubled-width 16 (λ a b c d. absurd (c refl)))
+    (doubled-width 32 (λ a b c d. absurd (d refl)))
 
 -- a check of field k as it is lent from a to e
 module _ (f : Format) (xs : List ℕ) (k a e : ℕ) (h : k < 5) (p : a ≡ start k (widths f)) (q : e ≡ a + getD (widths f) k 0) where
@@ -111,17 +145,17 @@ module _ (f : Format) (xs : List ℕ) (k a e : ℕ) (h : k < 5) (p : a ≡ start
 
   -- .. with the pilot of the field's width
   pub pilot-lent : (w : Whole f (length xs)) (slot : ℕ) {r : Bool}
-      → r ≡ all (length (take (e - a) (drop a xs))) (agree (take (e - a) (drop a xs)) (pilotOf (length (take (e - a) (drop a xs))) slot))
-      → r ≡ all (length (take (e - a) (drop a xs))) (agree (take (e - a) (drop a xs)) (pilotOf (getD (widths f) k 0) slot))
+      → r ≡ all (length (take (e - a) (drop a xs))) (agree (take (e - a) (drop a xs)) (pilotFor (f .kind) (length (take (e - a) (drop a xs))) slot))
+      → r ≡ all (length (take (e - a) (drop a xs))) (agree (take (e - a) (drop a xs)) (pilotFor (f .kind) (getD (widths f) k 0) slot))
   pilot-lent w slot told =
-      told ∙ ap (λ (n : ℕ). all (length (take (e - a) (drop a xs))) (agree (take (e - a) (drop a xs)) (pilotOf n slot))) (lent-long w)
+      told ∙ ap (λ (n : ℕ). all (length (take (e - a) (drop a xs))) (agree (take (e - a) (drop a xs)) (pilotFor (f .kind) n slot))) (lent-long w)
 
 -- a slot that fits is done, wherever its places count from
-pub fits-anywhere : (format slot : ℕ) (xs : List ℕ) (base : ℕ) {r : Bool} → r ≡ eqb (partVerdict format slot xs 0 .number) 0 → r ≡ true
-    → done ≡ partVerdict format slot xs base
+pub fits-anywhere : (f : Format) (slot : ℕ) (xs : List ℕ) (base : ℕ) {r : Bool} → r ≡ eqb (partVerdict f slot xs 0 .number) 0 → r ≡ true
+    → done ≡ partVerdict f slot xs base
 unfolding partVerdict
-fits-anywhere format slot xs base told good =
+fits-anywhere f slot xs base told good =
     let c = or-else-done _ _ (eqb-true _ _ (sym told ∙ good)) in
     sym (or-else-pass
     (unless-pass 3 0 (unless-done _ 3 0 (lit< tt) (c .first)))
-    (digits-pass (formatOf format) slot xs base (digits-ok (formatOf format) slot xs 0 (c .rest))))
+    (digits-pass f slot xs base (digits-ok f slot xs 0 (c .rest))))

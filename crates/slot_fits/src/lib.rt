@@ -1,6 +1,7 @@
 // Whether a slot of the downlink DPCH is one that some fields give (rule, promises and theorems are those of the crate `slot`): docs/RULES.md, 'DPCH slot'; TS 25.211, 5.3.2.
 // Nearly every slot is, so this is asked first; which digit is refused, and where, the crate `slot_check` finds.
 use dpch::Format;
+use dpch::KIND_B;
 use run::DTX;
 ghost use mathlib.Core.Path.{_≡_};
 ghost use mathlib.Core.Bool.{_&&_, Bool·beq};
@@ -8,7 +9,9 @@ ghost use Prim.Native.Nat.{_≤_};
 ghost use lib.Dec.{eqb};
 ghost use lib.ListN.{length};
 ghost use Rattle.run.specs.First.{all, isAt, likeFirst, agree};
+ghost use Rattle.dpch.specs.Formats.{normal, kindB, formatOf};
 ghost use Rattle.dpch.specs.Pilots.{pilotOf};
+ghost use Rattle.dpch.specs.Compressed.{formatIn, pilotFor};
 ghost use Rattle.slot.specs.Rule.{tfciStands};
 ghost use Rattle.slot.specs.Outcome.{digitsVerdict, partVerdict};
 ghost use Rattle.slot.specs.Ready.{Whole};
@@ -92,6 +95,7 @@ fn is_command(s: &[u8]) -> bool
         2 => all_are(s, v, 2),
         4 => all_are(s, v, 4),
         8 => all_are(s, v, 8),
+        16 => all_are(s, v, 16),
         _ => all_are(s, v, n),
     }
 }
@@ -107,14 +111,16 @@ pub fn is_tfci(s: &[u8]) -> bool
     let silent = s[0] == DTX;
     match n {
         2 => all_of_kind(s, silent, 2),
+        4 => all_of_kind(s, silent, 4),
         8 => all_of_kind(s, silent, 8),
+        16 => all_of_kind(s, silent, 16),
         _ => all_of_kind(s, silent, n),
     }
 }
 
 // Whether the digits of a pilot field are the slot's pilot.
-fn is_pilot(s: &[u8], slot: usize) -> bool
-    requires { ⌜ PilotWidth (length (now s)) ⌝ }
+fn is_plain(s: &[u8], slot: usize) -> bool
+    requires { ⌜ PilotWidth normal (length (now s)) ⌝ }
     ensures { λ r. ⌜ r ≡ all (length (now (s .entry))) (agree (now (s .entry)) (pilotOf (length (now (s .entry))) slot)) ⌝ }
 {
     let row = dpch::pilot_row(0, slot);
@@ -127,9 +133,36 @@ fn is_pilot(s: &[u8], slot: usize) -> bool
     }
 }
 
+// .. of a format B, in which each pair of bits stands twice.
+fn is_doubled(s: &[u8], slot: usize) -> bool
+    requires { ⌜ PilotWidth kindB (length (now s)) ⌝ }
+    ensures { λ r. ⌜ r ≡ all (length (now (s .entry))) (agree (now (s .entry)) (pilotFor kindB (length (now (s .entry))) slot)) ⌝ }
+{
+    let row = dpch_rows::doubled_row(slot);
+    match s.len() {
+        4 => all_agree(s, &row[4..8], 4),
+        8 => all_agree(s, &row, 8),
+        16 => all_agree(s, &row, 16),
+        32 => all_agree(s, &row, 32),
+        _ => true,
+    }
+}
+
+// .. of a format's kind.
+fn is_pilot(s: &[u8], kind: usize, slot: usize) -> bool
+    requires { ⌜ PilotWidth kind (length (now s)) ⌝ }
+    ensures { λ r. ⌜ r ≡ all (length (now (s .entry))) (agree (now (s .entry)) (pilotFor kind (length (now (s .entry))) slot)) ⌝ }
+{
+    if kind == KIND_B {
+        is_doubled(s, slot)
+    } else {
+        is_plain(s, slot)
+    }
+}
+
 // Each field in its own stretch, and all digits together.
 fn fields_fit(f: Format, slot: usize, xs: &[u8]) -> bool
-    requires { ⌜ Whole f (length (now xs)) × PilotWidth (f .pilot) ⌝ }
+    requires { ⌜ Whole f (length (now xs)) × PilotWidth (f .kind) (f .pilot) ⌝ }
     ensures { λ r. ⌜ r ≡ eqb (digitsVerdict f slot (now (xs .entry)) 0 .number) 0 ⌝ }
 {
     let a = f.data1;
@@ -137,7 +170,7 @@ fn fields_fit(f: Format, slot: usize, xs: &[u8]) -> bool
     let c = b + f.tfci;
     let d = c + f.data2;
     let e = d + f.pilot;
-    let last = is_pilot(&xs[d..e], slot);
+    let last = is_pilot(&xs[d..e], f.kind, slot);
     let kinds = both(is_tfci(&xs[b..c]), last);
     let commands = both(is_command(&xs[a..b]), kinds);
     both(xs.len() <= scan::first_above(xs, 2), commands)
@@ -145,9 +178,20 @@ fn fields_fit(f: Format, slot: usize, xs: &[u8]) -> bool
 
 // Whether the run is a slot of the format and no check of its digits refuses it.
 pub fn fits(format: usize, slot: usize, xs: &[u8]) -> bool
-    ensures { λ r. ⌜ r ≡ eqb (partVerdict format slot (now (xs .entry)) 0 .number) 0 ⌝ }
+    ensures { λ r. ⌜ r ≡ eqb (partVerdict (formatOf format) slot (now (xs .entry)) 0 .number) 0 ⌝ }
 {
     let f = dpch::format_of(format);
+    if xs.len() != f.slot {
+        return false;
+    }
+    fields_fit(f, slot, xs)
+}
+
+// .. of a row of any kind.
+pub fn row_fits(kind: usize, format: usize, slot: usize, xs: &[u8]) -> bool
+    ensures { λ r. ⌜ r ≡ eqb (partVerdict (formatIn kind format) slot (now (xs .entry)) 0 .number) 0 ⌝ }
+{
+    let f = dpch_rows::format_in(kind, format);
     if xs.len() != f.slot {
         return false;
     }

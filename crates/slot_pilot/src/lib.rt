@@ -1,9 +1,12 @@
 // The pilot field of a slot of the downlink DPCH, written (rule, promises and theorems are those of the crates `dpch` and `slot`): docs/RULES.md, 'DPCH slot'; TS 25.211, 5.3.2, and on antenna 2 5.3.2.1.
+use dpch::KIND_B;
 ghost use mathlib.Core.Path.{_≡_};
 ghost use Prim.Native.Nat.{_≤_};
 ghost use lib.ListN.{length};
 ghost use Rattle.run.specs.Written.{over};
+ghost use Rattle.dpch.specs.Formats.{kindB};
 ghost use Rattle.dpch.specs.Pilots.{pilotSource};
+ghost use Rattle.dpch.specs.Compressed.{sourceFor};
 ghost use Rattle.dpch.specs.SecondPilots.{secondSource};
 
 // The first n digits of `src` into a field of n. Here n is a number where the function is called, so that a field is one store.
@@ -19,7 +22,7 @@ fn copy_n(dst: &mut [u8], src: &[u8], n: usize)
 }
 
 // The pilot of a slot, as long as the field. A row that is lent with no known end has to stand in memory, so the fields of other widths have a row of their own.
-pub fn write_pilot(dst: &mut [u8], slot: usize)
+fn write_plain(dst: &mut [u8], slot: usize)
     ensures { λ _. ⌜ now (dst .exit) ≡ over (pilotSource (length (now (dst .entry))) slot) (now (dst .entry)) ⌝ }
 {
     let row = dpch::pilot_row(0, slot);
@@ -35,7 +38,35 @@ pub fn write_pilot(dst: &mut [u8], slot: usize)
     }
 }
 
-// .. on antenna 2, where the pilot of four bits is not the beginning of the others.
+// .. of a format B, in which each pair of bits stands twice.
+fn write_doubled(dst: &mut [u8], slot: usize)
+    ensures { λ _. ⌜ now (dst .exit) ≡ over (sourceFor kindB (length (now (dst .entry))) slot) (now (dst .entry)) ⌝ }
+{
+    let row = dpch_rows::doubled_row(slot);
+    match dst.len() {
+        4 => copy_n(dst, &row[4..8], 4),
+        8 => copy_n(dst, &row, 8),
+        16 => copy_n(dst, &row, 16),
+        32 => copy_n(dst, &row, 32),
+        _ => {
+            let other = dpch_rows::doubled_row(slot);
+            write::copy(dst, &other)
+        }
+    }
+}
+
+// The pilot of a slot, of a format's kind.
+pub fn write_pilot(dst: &mut [u8], kind: usize, slot: usize)
+    ensures { λ _. ⌜ now (dst .exit) ≡ over (sourceFor kind (length (now (dst .entry))) slot) (now (dst .entry)) ⌝ }
+{
+    if kind == KIND_B {
+        write_doubled(dst, slot);
+    } else {
+        write_plain(dst, slot);
+    }
+}
+
+// .. on antenna 2 in the normal formats, where the pilot of four bits is not the beginning of the others.
 pub fn write_second(dst: &mut [u8], slot: usize)
     ensures { λ _. ⌜ now (dst .exit) ≡ over (secondSource (length (now (dst .entry))) slot) (now (dst .entry)) ⌝ }
 {

@@ -8,7 +8,8 @@ ghost use mathlib.Core.Path.{_≡_};
 ghost use lib.ListN.{length};
 ghost use Rattle.slot.specs.Rule.{slotOf};
 ghost use Rattle.slot.specs.Ready.{Ready};
-ghost use Rattle.slot.specs.Outcome.{Put};
+ghost use Rattle.dpch.specs.Compressed.{formatIn};
+ghost use Rattle.slot.specs.Outcome.{Put, PutRow};
 
 // The five fields, each into its own stretch. A copy goes as far as the field.
 fn write(f: Format, slot: usize, tpc: u8, data: &[u8], tfci: &[u8], out: &mut [u8])
@@ -24,7 +25,7 @@ fn write(f: Format, slot: usize, tpc: u8, data: &[u8], tfci: &[u8], out: &mut [u
     fill(&mut out[a..b], tpc);
     copy(&mut out[b..c], tfci);
     copy(&mut out[c..d], &data[a..]);
-    write_pilot(&mut out[d..e], slot);
+    write_pilot(&mut out[d..e], f.kind, slot);
 }
 
 // The slot of the fields with no look at their digits, or the refusal and `out` as it was.
@@ -38,4 +39,22 @@ pub fn put(format: usize, slot: usize, tpc: u8, data: &[u8], tfci: &[u8], out: &
     let f = dpch::format_of(format);
     write(f, slot, tpc, data, tfci, out);
     head
+}
+
+// .. of a row of a compressed format, where the runs have its lengths.
+pub fn put_row(
+    kind: usize,
+    format: usize,
+    slot: usize,
+    tpc: u8,
+    data: &[u8],
+    tfci: &[u8],
+    out: &mut [u8],
+)
+    ensures { λ _. ⌜ PutRow (formatIn kind format) slot tpc (now («data» .entry)) (now (tfci .entry)) (now (out .entry)) (now (out .exit)) ⌝ }
+{
+    let f = dpch_rows::format_in(kind, format);
+    if slot::sizes_are(f, data.len(), tfci.len(), out.len()) {
+        write(f, slot, tpc, data, tfci, out);
+    }
 }

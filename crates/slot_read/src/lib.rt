@@ -3,7 +3,8 @@
 use dpch::Command;
 use run::Verdict;
 ghost use mathlib.Core.Path.{_≡_};
-ghost use Rattle.slot.specs.Outcome.{readVerdict, Read, Take};
+ghost use Rattle.dpch.specs.Compressed.{formatIn};
+ghost use Rattle.slot.specs.Outcome.{readVerdict, Read, Take, TakeRow};
 
 mod fields;
 
@@ -40,6 +41,18 @@ pub fn take(format: usize, slot: usize, xs: &[u8], data: &mut [u8], tfci: &mut [
         verdict: head,
         tpc: fields::command(f, xs),
     }
+}
+
+// .. of a slot of a compressed format's row, where the runs have its lengths; else nothing is taken and the command is 0.
+pub fn take_row(kind: usize, format: usize, xs: &[u8], data: &mut [u8], tfci: &mut [u8]) -> usize
+    ensures { λ r. ⌜ TakeRow (formatIn kind format) (now (xs .entry)) (now («data» .entry)) (now (tfci .entry)) r (now («data» .exit)) (now (tfci .exit)) ⌝ }
+{
+    let f = dpch_rows::format_in(kind, format);
+    if slot::sizes_are(f, data.len(), tfci.len(), xs.len()) {
+        fields::take(f, xs, data, tfci);
+        return fields::command(f, xs);
+    }
+    0
 }
 
 // The fields of a slot, or the refusal and the runs as they were.

@@ -60,6 +60,23 @@ module _ {A : Type 0} (bar : A → A) where
   sttd-drop zero s = refl
   sttd-drop (suc k) s = rw (more k) (next-drop (4 * k) (sttd-drop k) s)
 
+  -- .. and so is any part of whole blocks that begins with one
+  pub sttd-part : (s : List A) (a w : ℕ) → a % 4 ≡ 0 → w % 4 ≡ 0 → sttd bar (take w (drop a s)) ≡ take w (drop a (sttd bar s))
+  sttd-part s a w da dw =
+      let from : 4 * (a / 4) ≡ a = omega arith in
+      let wide : 4 * (w / 4) ≡ w = omega arith in
+      rw (← wide, sttd-take (w / 4) (drop a s), ← from, sttd-drop (a / 4) s)
+
+  -- two bars that agree at each entry encode alike
+  pub same-bars : (other : A → A) (d : A) (s : List A) → ((k : ℕ) → k < length s → bar (getD s k d) ≡ other (getD s k d)) → sttd bar s ≡ sttd other s
+  unfolding sttd
+  same-bars other d [] same = refl
+  same-bars other d (b0 ∷ []) same = refl
+  same-bars other d (b0 ∷ b1 ∷ []) same = refl
+  same-bars other d (b0 ∷ b1 ∷ b2 ∷ []) same = refl
+  same-bars other d (b0 ∷ b1 ∷ b2 ∷ b3 ∷ s) same =
+      rw (same 2 (omega arith), same 1 (omega arith), same-bars other d s (λ k h. same (suc (suc (suc (suc k)))) (omega arith)))
+
   -- what is left behind the last whole block stays as it is
   pub tail-kept : (s : List A) (k : ℕ) → length s < 4 * k + 4 → drop (4 * k) (sttd bar s) ≡ drop (4 * k) s
   tail-kept s k h =

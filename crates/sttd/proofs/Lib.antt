@@ -3,3 +3,4 @@ pub mod Bars
 pub mod Runs
 pub mod Exact
 pub mod Antenna2
+pub mod Blocks

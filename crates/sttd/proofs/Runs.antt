@@ -26,7 +26,7 @@ use Rattle.sttd.specs.Rule.{sttd, barDigit}
 use Rattle.sttd.specs.Outcome.{digitsVerdict, valueIn, valuesIn, valuesVerdict, encodedOver}
 use Rattle.sttd.specs.Exact.{Block}
 use Rattle.sttd.proofs.Bars.{bar-by-cap, value-fits, negated-fits}
-use Rattle.sttd.proofs.Laws.{sttd-length, sttd-take, sttd-drop, block-at}
+use Rattle.sttd.proofs.Laws.{sttd-length, sttd-take, sttd-part, block-at}
 
 module _ {A : Type 0} (bar : A → A) where
   -- the four stores of a block from i on: one block more of t stands, where t is antenna 2's run so far
@@ -130,14 +130,8 @@ module _ (input out₀ : List ℕ) where
       let t = encoded-length in
       let p = parts-lent input a e f h (omega arith) (omega arith) in
       let src = p .0 in
-      front-part e f h (omega arith) (y ∙ encoded-whole _ _ (omega arith) (p .1 ∙ sym src) ∙ shifted ∙ placed)
+      front-part e f h (omega arith) (y ∙ encoded-whole _ _ (omega arith) (p .1 ∙ sym src) ∙ sttd-part barDigit input a (e - a) da (omega arith) ∙ placed)
     where
-      shifted : sttd barDigit (take (e - a) (drop a input)) ≡ take (e - a) (drop a (sttd barDigit input))
-      shifted =
-          let from : 4 * (a / 4) ≡ a = omega arith in
-          let wide : 4 * ((e - a) / 4) ≡ e - a = omega arith in
-          rw (← wide, sttd-take barDigit ((e - a) / 4) (drop a input), ← from, sttd-drop barDigit (a / 4) input)
-
       placed : take (e - a) (drop a (sttd barDigit input)) ≡ take (e - a) (drop a (encodedOver input out₀))
       placed =
           let l = sttd-length barDigit input in

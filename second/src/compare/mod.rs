@@ -6,14 +6,18 @@ pub mod aich;
 pub mod aich_available;
 pub mod antenna;
 pub mod combiner;
+pub mod compressed;
+pub mod desk;
 pub mod dpcch;
 pub mod dpch;
 pub mod dpdch;
 pub mod frame;
+pub mod hspdsch;
 pub mod pccpch;
 pub mod pich;
 pub mod sample;
 pub mod sttd;
+pub mod wake;
 
 /// Lengths to try for a run: the right one, near it, far from it, and equal to it in the low 8 or 16 bits. `None` is
 /// NULL.

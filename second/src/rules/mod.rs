@@ -7,12 +7,16 @@
 pub mod aich;
 pub mod antenna;
 pub mod combiner;
+pub mod compressed;
+pub mod desk;
 pub mod dpcch;
 pub mod dpch;
 pub mod dpdch;
 pub mod frame;
+pub mod hspdsch;
 pub mod job;
 pub mod pccpch;
 pub mod pich;
 pub mod sample;
 pub mod sttd;
+pub mod wake;

@@ -5,8 +5,7 @@ use mathlib.Core.Path.{sym}
 use native.Mathlib.Omega.{arith}
 use Rattle.kinds.specs.Rule.{sizeOf}
 use Rattle.kinds.proofs.ByKind.{by-aich, by-pich, by-dpch}
-use Rattle.dpch.specs.Layouts.{downlinkDpch}
-use Rattle.dpch.proofs.Exact.{fields-fill, format-sizes}
+use Rattle.dpch.proofs.Exact.{normal-fill, format-sizes}
 use borrow.Author.Needs.{needs}
 use Rattle.kinds.proofs.size_of.Statement.{statement}
 use Rattle.kinds.proofs.size_of.Tie as tie
@@ -19,15 +18,15 @@ format-of-requires c κs = search needs
 
 add-result-2 : tie.Need-add-result-2
 unfolding total
-add-result-2 c = rw (c .before .format-of .ensures) (omega (arith, fields-fill downlinkDpch (c .before .before .before .args .second), format-sizes (c .before .before .before .args .second) .short))
+add-result-2 c = rw (c .before .format-of .ensures) (omega (arith, normal-fill (c .before .before .before .args .second), format-sizes (c .before .before .before .args .second) .short))
 
 add-result-3 : tie.Need-add-result-3
 unfolding total
-add-result-3 c = rw (c .before .before .format-of .ensures) (omega (arith, fields-fill downlinkDpch (c .before .before .before .before .args .second), format-sizes (c .before .before .before .before .args .second) .short))
+add-result-3 c = rw (c .before .before .format-of .ensures) (omega (arith, normal-fill (c .before .before .before .before .args .second), format-sizes (c .before .before .before .before .args .second) .short))
 
 add-result-4 : tie.Need-add-result-4
 unfolding total
-add-result-4 c = rw (c .before .before .format-of .ensures) (omega (arith, fields-fill downlinkDpch (c .before .before .before .before .args .second), format-sizes (c .before .before .before .before .args .second) .short))
+add-result-4 c = rw (c .before .before .format-of .ensures) (omega (arith, normal-fill (c .before .before .before .before .args .second), format-sizes (c .before .before .before .before .args .second) .short))
 
 returns : tie.Need-returns
 unfolding sizeOf

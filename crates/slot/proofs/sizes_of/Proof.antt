@@ -1,8 +1,6 @@
 -- `slot::sizes_of` meets its contract.
 -- Assumes nothing.
-use mathlib.Core.Path.{refl}
-use native.Mathlib.Omega.{arith}
-use Rattle.slot.proofs.Laws.{data-small, tfci-small, sound-format}
+use Rattle.slot.proofs.Laws.{sound-format}
 use borrow.Author.Needs.{needs}
 use Rattle.slot.proofs.sizes_of.Statement.{statement}
 use Rattle.slot.proofs.sizes_of.Tie as tie
@@ -10,11 +8,11 @@ use Rattle.slot.proofs.sizes_of.Tie as tie
 format-of-requires : tie.Need-format-of-requires
 format-of-requires c κs = search needs
 
-add-t3 : tie.Need-add-t3
-add-t3 c = rw (c .before .format-of .ensures) (let h = data-small (c .before .before .args .format) in omega arith)
+sizes-in-requires : tie.Need-sizes-in-requires
+sizes-in-requires c κs = rw (c .format-of .ensures) (sound-format _)
 
 returns : tie.Need-returns
-returns c = rw (c .before .format-of .ensures) (record { data-is = refl; tfci-is = refl; slot-is = refl; data-short = data-small _; tfci-short = tfci-small _; slot-short = sound-format _ .short })
+returns c = rw (c .before .format-of .ensures) at (c .sizes-in .ensures)
 
 pub sizes-of-spec : {M : Type 1} → statement M
-sizes-of-spec = tie.close (tie.spec format-of-requires add-t3 returns)
+sizes-of-spec = tie.close (tie.spec format-of-requires sizes-in-requires returns)

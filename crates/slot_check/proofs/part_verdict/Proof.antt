@@ -4,6 +4,7 @@ use mathlib.Core.Path.{sym, _∙_}
 use borrow.Author.Tests.{ne-eqb}
 use denote.Ref.{now}
 use Rattle.run.specs.Verdicts.{orElse, unless}
+use Rattle.dpch.specs.Formats.{formatOf}
 use Rattle.slot.specs.Outcome.{partVerdict}
 use Rattle.slot.proofs.Laws.{sound-format, part-whole}
 use Rattle.slot_fits.proofs.Laws.{fits-anywhere}
@@ -17,7 +18,7 @@ fits-requires c κs = search needs
 returns : tie.Need-returns
 returns c =
     let a = c .before .before .before .args in
-    fits-anywhere (a .format) (a .slot) (now (a .xs)) (a .base) (c .before .fits2 .ensures) (c .if1 .taken)
+    fits-anywhere (formatOf (a .format)) (a .slot) (now (a .xs)) (a .base) (c .before .fits2 .ensures) (c .if1 .taken)
 
 format-of-requires : tie.Need-format-of-requires
 format-of-requires c κs = search needs

@@ -10,7 +10,7 @@ use lib.Dec.{leb, lit<}
 use lib.ListN.{length}
 use Rattle.run.specs.First.{all, likeFirst, agree}
 use Rattle.run.proofs.Chain.{both-fit, each-fits}
-use Rattle.dpch.specs.Pilots.{pilotOf}
+use Rattle.dpch.specs.Compressed.{pilotFor}
 use Rattle.slot.specs.Rule.{tfciStands}
 use Rattle.slot.specs.Outcome.{digitsVerdict}
 use Rattle.slot.proofs.Laws.{sum, start-tpc, start-tfci, start-pilot}
@@ -94,7 +94,7 @@ returns c =
     both-fit _ _ (c .both3 .ensures) (each-fits _ _ _ _ (lit< tt) (ap (leb (length xs)) (c .before .first-above .ensures)))
     (both-fit _ _ (c .before .before .both2 .ensures) (field-told f xs 1 _ _ (lit< tt) (sym (start-tpc f)) refl _ _ likeFirst (lit< tt) (c .before .before .before .is-command .ensures))
     (both-fit _ _ (c .before .before .before .before .before .both .ensures) (field-told f xs 2 _ _ (lit< tt) (sym (start-tfci f)) refl _ _ tfciStands (lit< tt) (c .before .before .before .before .before .before .is-tfci .ensures))
-    (field-told f xs 4 _ _ (lit< tt) (sym (start-pilot f)) refl _ _ (λ (s : List ℕ). agree s (pilotOf (f .pilot) (a .slot))) (lit< tt)
+    (field-told f xs 4 _ _ (lit< tt) (sym (start-pilot f)) refl _ _ (λ (s : List ℕ). agree s (pilotFor (f .kind) (f .pilot) (a .slot))) (lit< tt)
     (pilot-lent f xs 4 _ _ (lit< tt) (sym (start-pilot f)) refl w (a .slot) (c .before .before .before .before .before .before .before .before .is-pilot .ensures)))))
 
 pub fields-fit-spec : {M : Type 1} → statement M

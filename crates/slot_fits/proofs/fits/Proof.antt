@@ -6,6 +6,7 @@ use borrow.Author.Tests.{ne-eqb}
 use lib.Dec.{eqb}
 use Rattle.run.specs.declared.Verdict.{Verdict}
 use Rattle.run.specs.Verdicts.{orElse, unless}
+use Rattle.dpch.specs.Compressed.{formatIn}
 use Rattle.slot.specs.Outcome.{partVerdict}
 use Rattle.slot.proofs.Laws.{sound-format, part-whole}
 use Rattle.slot_fits.proofs.Laws.{pilot-width}
@@ -20,9 +21,10 @@ unfolding partVerdict orElse unless
 returns c = rw (ne-eqb _ _ (rw (c .before .before .format-of .ensures) at (c .if1 .taken)))
 
 fields-fit-requires : tie.Need-fields-fit-requires
+unfolding formatIn
 fields-fit-requires c κs =
     let e = c .before .before .format-of .ensures in
-    rw e (record { sound = sound-format _; slot-ok = rw e at (c .if1 .left) }, pilot-width _)
+    rw e (record { sound = sound-format _; slot-ok = rw e at (c .if1 .left) }, pilot-width 0 _)
 
 returns-2 : tie.Need-returns-2
 returns-2 c =

@@ -29,6 +29,9 @@ all-are-requires-3 c κs = search needs
 all-are-requires-4 : tie.Need-all-are-requires-4
 all-are-requires-4 c κs = search needs
 
+all-are-requires-5 : tie.Need-all-are-requires-5
+all-are-requires-5 c κs = search needs
+
 returns-3 : tie.Need-returns-3
 returns-3 c = command-told (now (c .before .before .before .before .before .before .args .s)) 2 (c .before .match .keys1) (c .before .before .if2 .left) (c .all-are .ensures)
 
@@ -39,7 +42,10 @@ returns-5 : tie.Need-returns-5
 returns-5 c = command-told (now (c .before .before .before .before .before .before .args .s)) 8 (c .before .match .keys3) (c .before .before .if2 .left) (c .all-are3 .ensures)
 
 returns-6 : tie.Need-returns-6
-returns-6 c = command-told (now (c .before .before .before .before .before .before .args .s)) _ refl (c .before .before .if2 .left) (c .all-are4 .ensures)
+returns-6 c = command-told (now (c .before .before .before .before .before .before .args .s)) 16 (c .before .match .keys4) (c .before .before .if2 .left) (c .all-are4 .ensures)
+
+returns-7 : tie.Need-returns-7
+returns-7 c = command-told (now (c .before .before .before .before .before .before .args .s)) _ refl (c .before .before .if2 .left) (c .all-are5 .ensures)
 
 pub is-command-spec : {M : Type 1} → statement M
 is-command-spec =
@@ -52,7 +58,9 @@ is-command-spec =
     all-are-requires-2
     all-are-requires-3
     all-are-requires-4
+    all-are-requires-5
     returns-3
     returns-4
     returns-5
-    returns-6)
+    returns-6
+    returns-7)

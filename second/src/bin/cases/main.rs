@@ -11,13 +11,17 @@
 mod access;
 mod antennas;
 mod case;
+mod compressed;
+mod desk;
 mod frames;
+mod hspdsch;
 mod jobs;
 mod paging;
 mod runs;
 mod samples;
 mod slots;
 mod uplink;
+mod wake;
 
 fn main() {
     let questions_only = match std::env::args().nth(1).as_deref() {
@@ -25,8 +29,8 @@ fn main() {
         Some("--questions") => true,
         Some(other) => panic!("{other} is not --questions"),
     };
-    let dedicated = [slots::all(), frames::all(), uplink::all()];
-    let others = [antennas::all(), paging::all(), access::all(), samples::all(), jobs::all()];
+    let dedicated = [slots::all(), frames::all(), compressed::all(), uplink::all()];
+    let others = [antennas::all(), paging::all(), access::all(), desk::all(), samples::all(), wake::all(), jobs::all(), hspdsch::all()];
     for case in [dedicated.concat(), others.concat()].concat() {
         if questions_only {
             println!("{}", case.question);

@@ -5,7 +5,7 @@ use crate::draw::Draw;
 use crate::lent::{HUGE, Room};
 use second::answer::{Answer, Refusal};
 use second::rules::sample::{Setting, VALUE_LIMIT, sample};
-use second::rules::{aich, combiner, pccpch, pich, sttd};
+use second::rules::{aich, combiner, hspdsch, desk, pccpch, pich, sttd};
 
 const NPS: [usize; 4] = [18, 36, 72, 144];
 
@@ -100,6 +100,34 @@ pub fn pccpch_read(draw: &mut Draw) -> Case {
     Case::of(&[]).held(&antenna1).held(&antenna2).room(&data, after).answers(Answer::of(&outcome))
 }
 
+// HS-PDSCH
+
+pub fn hspdsch_map(draw: &mut Draw) -> Case {
+    let good = draw.random.below(hspdsch::FORMATS);
+    let digits = draw.random.digits(hspdsch::size(good), 2);
+    let digits = draw.digits(digits);
+    let format = draw.number(good);
+    let data = draw.lend(digits);
+    let (antenna1, antenna2) = (draw.room(hspdsch::size(good)), draw.room(hspdsch::size(good)));
+    let outcome = hspdsch::map(format, &data.run, antenna1.length, antenna2.length);
+    let (after1, after2) = (outcome.as_ref().ok().map(|both| &both.0[..]), outcome.as_ref().ok().map(|both| &both.1[..]));
+    Case::of(&[format]).held(&data).room(&antenna1, after1).room(&antenna2, after2).answers(Answer::of(&outcome))
+}
+
+pub fn hspdsch_read(draw: &mut Draw) -> Case {
+    let good = draw.random.below(hspdsch::FORMATS);
+    let n = hspdsch::size(good);
+    let digits = draw.random.digits(n, 2);
+    let (sent1, sent2) = hspdsch::map(good, &digits, n, n).expect("good data");
+    let (sent1, sent2) = (draw.digits(sent1), draw.digits(sent2));
+    let format = draw.number(good);
+    let (antenna1, antenna2) = (draw.lend(sent1), draw.lend(sent2));
+    let data = draw.room(n);
+    let outcome = hspdsch::read(format, &antenna1.run, &antenna2.run, data.length);
+    let after = outcome.as_deref().ok();
+    Case::of(&[format]).held(&antenna1).held(&antenna2).room(&data, after).answers(Answer::of(&outcome))
+}
+
 // AICH
 
 pub fn aich_map(draw: &mut Draw) -> Case {
@@ -147,6 +175,42 @@ pub fn aich_read_available(draw: &mut Draw) -> Case {
     let outcome = aich::read_available(available, &values.run, indicators.length);
     let case = Case::of(&[available.into()]).held(&values);
     case.room(&indicators, outcome.as_deref().ok()).answers(Answer::of(&outcome))
+}
+
+// Random access desk
+
+/// The desk is a run of one number. Its number before the call is told beside it; a refused call leaves it.
+pub fn desk_serve(draw: &mut Draw) -> Case {
+    let bits = draw.random.next();
+    let (heard, available) = (bits as u16, draw.random.pick(&[(bits >> 16) as u16, u16::MAX]));
+    let (last, n) = (draw.random.below(aich::SIGNATURES), 1 + draw.random.below(aich::SIGNATURES));
+    let (last, n) = (draw.number(last), draw.number(n));
+    let (desk, values) = (draw.one(), draw.room(aich::VALUES));
+    let outcome = desk::serve(last, heard, available, n, values.length);
+    let after = outcome.as_ref().map_or(last, |(_, after)| *after) as i64;
+    let written = outcome.as_ref().ok().map(|(values, _)| values.as_slice());
+    let case = Case::of(&[last, heard.into(), available.into(), n]).room(&desk, Some(&[after]));
+    case.room(&values, written).answers(Answer::of(&outcome))
+}
+
+fn distance(timing: usize, outcome: Result<usize, Refusal>) -> Case {
+    let answer = match outcome {
+        Ok(chips) => Answer::done(chips as u16),
+        Err(refusal) => Answer::refused(refusal),
+    };
+    Case::of(&[timing]).answers(answer)
+}
+
+pub fn desk_to_aich(draw: &mut Draw) -> Case {
+    let good = draw.random.below(2);
+    let timing = draw.number(good);
+    distance(timing, desk::to_aich(timing))
+}
+
+pub fn desk_to_message(draw: &mut Draw) -> Case {
+    let good = draw.random.below(2);
+    let timing = draw.number(good);
+    distance(timing, desk::to_message(timing))
 }
 
 pub fn aich_combine(draw: &mut Draw) -> Case {

@@ -199,4 +199,9 @@ impl Draw {
         };
         Room { length, null: length == 0 && self.coin(), place }
     }
+
+    /// One element that is written, which is always there.
+    pub fn one(&mut self) -> Room {
+        Room { length: 1, null: false, place: self.random.pick(&PLACES) }
+    }
 }

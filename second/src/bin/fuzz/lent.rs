@@ -21,6 +21,12 @@ impl Element for i32 {
     }
 }
 
+impl Element for u32 {
+    fn put(self, bytes: &mut Vec<u8>) {
+        bytes.extend(self.to_le_bytes());
+    }
+}
+
 impl Element for i64 {
     fn put(self, bytes: &mut Vec<u8>) {
         bytes.extend(self.to_le_bytes());

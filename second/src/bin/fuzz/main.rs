@@ -12,10 +12,12 @@
 
 mod calls;
 mod case;
+mod compressed;
 mod dpch;
 mod draw;
 mod lent;
 mod uplink;
+mod wake;
 
 use case::Case;
 use draw::Draw;
@@ -27,16 +29,20 @@ use std::process::ExitCode;
 type Call = (&'static [u16], fn(&mut Draw) -> Case);
 
 /// In the order of `include/slt.h`, which is that of the table in `fuzz/calls.c`.
-const CALLS: [Call; 29] = [
+const CALLS: [Call; 38] = [
     (&[0, 8, 11], calls::pich_q),
     (&[0, 3, 4, 8], calls::pich_map),
     (&[0, 3, 4, 8, 9], calls::pich_read),
+    (&[0, 3, 4, 8, 9, 11, 32], wake::run),
+    (&[0, 3, 4, 8, 9, 11, 32], wake::step),
     (&[0, 1, 2, 3, 4, 5, 6], dpch::slot_map),
     (&[0, 1, 2, 3, 4, 5, 6, 7], dpch::slot_read),
     (&[0, 1, 2, 3, 4, 5, 6, 11], dpch::slot_map_antenna),
     (&[0, 1, 2, 3, 4, 5, 6, 7, 9], dpch::slot_read_antennas),
     (&[0, 1, 3, 4, 5, 6], dpch::frame_map),
     (&[0, 1, 3, 4, 5, 6, 7], dpch::frame_read),
+    (&[0, 1, 3, 4, 5, 6, 27], compressed::map),
+    (&[0, 1, 3, 4, 5, 6, 7, 9, 27], compressed::read),
     (&[0, 1, 3, 4], uplink::dpdch_slot),
     (&[0, 1, 3, 4], uplink::dpdch_slot),
     (&[0, 1, 3, 4], uplink::dpdch_frame),
@@ -49,10 +55,15 @@ const CALLS: [Call; 29] = [
     (&[0, 3, 11], calls::sttd_values),
     (&[0, 3, 4], calls::pccpch_map),
     (&[0, 3, 4, 9], calls::pccpch_read),
+    (&[0, 1, 3, 4], calls::hspdsch_map),
+    (&[0, 1, 3, 4, 9], calls::hspdsch_read),
     (&[0, 3, 11], calls::aich_map),
     (&[0, 3, 10], calls::aich_read),
     (&[0, 3, 11, 26], calls::aich_map_available),
     (&[0, 3, 10, 26], calls::aich_read_available),
+    (&[0, 3, 11], calls::desk_serve),
+    (&[0, 11], calls::desk_to_aich),
+    (&[0, 11], calls::desk_to_message),
     (&[0, 3, 11, 12], calls::aich_combine),
     (&[0, 11], calls::sample_off),
     (&[0, 11], calls::sample_shared),
@@ -84,7 +95,7 @@ fn main() -> ExitCode {
 fn write_all(seed: u64) -> io::Result<()> {
     let mut out = BufWriter::with_capacity(1 << 16, io::stdout().lock());
     write_head(&mut out, [seed, 0, CASES])?;
-    let mut seen: [BTreeSet<u16>; CALLS.len()] = Default::default();
+    let mut seen: [BTreeSet<u16>; CALLS.len()] = std::array::from_fn(|_| BTreeSet::new());
     for case in 0..CASES {
         seen[call_of(case)].insert(write_case(&mut out, seed, case)?);
     }

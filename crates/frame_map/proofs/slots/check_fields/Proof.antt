@@ -9,13 +9,14 @@ use borrow.Author.Needs.{needs}
 use denote.Ref.{now}
 use Rattle.run.proofs.Chain.{chain-end, chain-hit}
 use Rattle.run.proofs.Parts.{part-room}
+use Rattle.dpch.specs.Formats.{formatOf}
 use Rattle.frame.specs.Outcome.{slotFields}
 use Rattle.frame.proofs.Laws.{fields-at}
 use Rattle.frame_map.proofs.slots.check_fields.Statement.{statement}
 use Rattle.frame_map.proofs.slots.check_fields.Tie as tie
 
 abbrev Inv-loop : tie.InvT-loop
-Inv-loop format «data» tfci commands n m k₀ k = (k ≤ 15) × ((j : ℕ) → j < k → slotFields format «data» tfci commands j .number ≡ 0)
+Inv-loop format «data» tfci commands n m k₀ k = (k ≤ 15) × ((j : ℕ) → j < k → slotFields (formatOf format) «data» tfci commands j .number ≡ 0)
 
 abbrev μ-loop : tie.MeasureT-loop
 μ-loop format «data» tfci commands n m k₀ k = 15 - k
@@ -79,7 +80,7 @@ fields-verdict-requires c κs = search needs
 returns : tie.Need-returns Inv-loop μ-loop
 returns c =
     let s = c .before .before .before .before .before .before .before .before .sizes-of .ensures in
-    let at-k = fields-at _ _ _ (now (c .before .before .before .before .before .before .before .before .before .before .before .before .args .commands)) _ _ _ _ (s .data-is) (s .tfci-is) (c .before .before .fields-verdict .ensures) in
+    let at-k = fields-at (formatOf (c .before .before .before .before .before .before .before .before .before .before .before .before .args .format)) _ _ (now (c .before .before .before .before .before .before .before .before .before .before .before .before .args .commands)) _ _ _ _ (s .data-is) (s .tfci-is) (c .before .before .fields-verdict .ensures) in
     at-k ∙ sym (chain-hit 15 _ _ (c .before .before .before .before .before .before .loop-test .taken) (c .before .before .before .before .before .before .before .loop .inv .1) (rw at-k at (c .if1 .taken)))
 
 add-k : tie.Need-add-k Inv-loop μ-loop
@@ -91,7 +92,7 @@ loop-less c = omega arith
 loop-again : tie.Need-loop-again Inv-loop μ-loop
 loop-again c =
     let s = c .before .before .before .before .before .before .before .before .sizes-of .ensures in
-    let at-k = fields-at _ _ _ (now (c .before .before .before .before .before .before .before .before .before .before .before .before .args .commands)) _ _ _ _ (s .data-is) (s .tfci-is) (c .before .before .fields-verdict .ensures) in
+    let at-k = fields-at (formatOf (c .before .before .before .before .before .before .before .before .before .before .before .before .args .format)) _ _ (now (c .before .before .before .before .before .before .before .before .before .before .before .before .args .commands)) _ _ _ _ (s .data-is) (s .tfci-is) (c .before .before .fields-verdict .ensures) in
     (omega arith, below-more _ _ (c .before .before .before .before .before .before .before .loop .inv .1) (rw at-k at (c .if1 .left)))
 
 returns-2 : tie.Need-returns-2 Inv-loop μ-loop

@@ -8,13 +8,14 @@ use borrow.Author.Count.{below-more}
 use borrow.Author.Needs.{needs}
 use Rattle.run.proofs.Chain.{chain-end, chain-hit}
 use Rattle.run.proofs.Parts.{part-room}
+use Rattle.dpch.specs.Formats.{formatOf}
 use Rattle.frame.specs.Outcome.{slotDigits}
 use Rattle.frame.proofs.Laws.{digits-at}
 use Rattle.frame_read.proofs.slots.check_digits.Statement.{statement}
 use Rattle.frame_read.proofs.slots.check_digits.Tie as tie
 
 abbrev Inv-loop : tie.InvT-loop
-Inv-loop format xs w k₀ k = (k ≤ 15) × ((j : ℕ) → j < k → slotDigits format xs j .number ≡ 0)
+Inv-loop format xs w k₀ k = (k ≤ 15) × ((j : ℕ) → j < k → slotDigits (formatOf format) xs j .number ≡ 0)
 
 abbrev μ-loop : tie.MeasureT-loop
 μ-loop format xs w k₀ k = 15 - k

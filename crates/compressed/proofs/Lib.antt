@@ -1,0 +1,4 @@
+pub mod Gap
+pub mod Accept
+pub mod Laws
+pub mod Exact

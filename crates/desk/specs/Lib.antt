@@ -1,0 +1,4 @@
+pub mod Rule
+pub mod Outcome
+pub mod Method
+pub mod Exact

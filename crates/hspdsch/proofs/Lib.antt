@@ -1,0 +1,4 @@
+pub mod Laws
+pub mod Symbols
+pub mod Checks
+pub mod Exact
