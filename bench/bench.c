@@ -14,6 +14,7 @@ int main(int n_arguments, char **arguments) {
     bench_wake();
     bench_pccpch();
     bench_hspdsch();
+    bench_lengths();
     bench_sttd();
     bench_aich();
     bench_desk();

@@ -12,6 +12,7 @@ void bench_pich(void);
 void bench_wake(void);
 void bench_pccpch(void);
 void bench_hspdsch(void);
+void bench_lengths(void);
 void bench_sttd(void);
 void bench_aich(void);
 void bench_desk(void);

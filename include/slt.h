@@ -175,6 +175,29 @@ uint64_t slt_hspdsch_map(size_t format, const uint8_t *data, size_t n_data, uint
 uint64_t slt_hspdsch_read(size_t format, const uint8_t *antenna1, size_t n_antenna1, const uint8_t *antenna2, size_t n_antenna2,
                           uint8_t *data, size_t n_data);
 
+/* Lengths of runs: how many elements each run of a mapper has, as the value. Runs are counted from 0 in the order in which the mapper
+ * tells refusal 3 of them; a run that there is not is refused with 11, place 0. So no caller needs a table of formats. */
+
+/* A slot of the downlink DPCH, on either antenna: 0 data, 1 TFCI, 2 slot. */
+uint64_t slt_slot_lengths(size_t format, size_t run);
+
+/* A frame of it: 0 data, 1 TFCI, 2 frame, 3 commands. */
+uint64_t slt_frame_lengths(size_t format, size_t run);
+
+/* A compressed frame of it: 0 data, 1 TFCI, 2 frame, 3 commands. A gap that does not stand is refused with 27, as the mapper does. */
+uint64_t slt_compressed_lengths(size_t format, size_t kind, size_t first, size_t missing, size_t run);
+
+/* A slot and a frame of the uplink DPDCH: 0 data, 1 slot or frame. */
+uint64_t slt_dpdch_lengths(size_t format, size_t run);
+uint64_t slt_dpdch_frame_lengths(size_t format, size_t run);
+
+/* A slot of the uplink DPCCH: 0 TFCI, 1 FBI, 2 slot. A frame of it: 0 TFCI, 1 FBI, 2 frame, 3 commands. */
+uint64_t slt_dpcch_lengths(size_t format, size_t run);
+uint64_t slt_dpcch_frame_lengths(size_t format, size_t run);
+
+/* A subframe of the HS-PDSCH: 0 data, 1 antenna 1, 2 antenna 2. */
+uint64_t slt_hspdsch_lengths(size_t format, size_t run);
+
 /* AICH (TS 25.211, 5.3.3.7): 16 indicators -1, 0, +1 and 32 values. */
 uint64_t slt_aich_map(const int32_t *indicators, size_t n_indicators, int32_t *values, size_t n_values);
 uint64_t slt_aich_read(const int32_t *values, size_t n_values, int32_t *indicators, size_t n_indicators);

@@ -366,6 +366,51 @@ pub fn hspdsch_read(format: usize, antenna1: &mut Lent<u8>, antenna2: &mut Lent<
     })
 }
 
+// Lengths of runs
+
+unsafe extern "C" {
+    fn slt_slot_lengths(format: usize, run: usize) -> u64;
+    fn slt_frame_lengths(format: usize, run: usize) -> u64;
+    fn slt_compressed_lengths(format: usize, kind: usize, first: usize, missing: usize, run: usize) -> u64;
+    fn slt_dpdch_lengths(format: usize, run: usize) -> u64;
+    fn slt_dpdch_frame_lengths(format: usize, run: usize) -> u64;
+    fn slt_dpcch_lengths(format: usize, run: usize) -> u64;
+    fn slt_dpcch_frame_lengths(format: usize, run: usize) -> u64;
+    fn slt_hspdsch_lengths(format: usize, run: usize) -> u64;
+}
+
+pub fn slot_lengths(format: usize, run: usize) -> Answer {
+    Answer::unpack(unsafe { slt_slot_lengths(format, run) })
+}
+
+pub fn frame_lengths(format: usize, run: usize) -> Answer {
+    Answer::unpack(unsafe { slt_frame_lengths(format, run) })
+}
+
+pub fn compressed_lengths(of: Frame, run: usize) -> Answer {
+    Answer::unpack(unsafe { slt_compressed_lengths(of.format, of.kind, of.first, of.missing, run) })
+}
+
+pub fn dpdch_lengths(format: usize, run: usize) -> Answer {
+    Answer::unpack(unsafe { slt_dpdch_lengths(format, run) })
+}
+
+pub fn dpdch_frame_lengths(format: usize, run: usize) -> Answer {
+    Answer::unpack(unsafe { slt_dpdch_frame_lengths(format, run) })
+}
+
+pub fn dpcch_lengths(format: usize, run: usize) -> Answer {
+    Answer::unpack(unsafe { slt_dpcch_lengths(format, run) })
+}
+
+pub fn dpcch_frame_lengths(format: usize, run: usize) -> Answer {
+    Answer::unpack(unsafe { slt_dpcch_frame_lengths(format, run) })
+}
+
+pub fn hspdsch_lengths(format: usize, run: usize) -> Answer {
+    Answer::unpack(unsafe { slt_hspdsch_lengths(format, run) })
+}
+
 // AICH
 
 unsafe extern "C" {

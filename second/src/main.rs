@@ -37,6 +37,7 @@ const CHANNELS: &[Channel] = &[
     ("sttd", compare::sttd::all),
     ("pccpch", compare::pccpch::all),
     ("hspdsch", compare::hspdsch::all),
+    ("lengths", compare::lengths::all),
     ("aich", compare::aich::all),
     ("aich_available", compare::aich_available::all),
     ("desk", compare::desk::all),

@@ -11,7 +11,7 @@ ghost use Rattle.dpch.specs.Uplink.{dpdchSize};
 ghost use Rattle.dpdch.specs.Outcome.{slotsVerdict, Carry, Map, Read, FrameMap, FrameRead};
 
 // The digits of a slot, 0 where there is no such format.
-fn size_of(format: usize) -> usize
+pub fn size_of(format: usize) -> usize
     ensures { λ r. ⌜ r ≡ dpdchSize format ⌝ }
 {
     match format {

@@ -13,6 +13,7 @@ pub mod dpch;
 pub mod dpdch;
 pub mod frame;
 pub mod hspdsch;
+pub mod lengths;
 pub mod pccpch;
 pub mod pich;
 pub mod sample;

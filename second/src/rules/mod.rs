@@ -15,6 +15,7 @@ pub mod dpdch;
 pub mod frame;
 pub mod hspdsch;
 pub mod job;
+pub mod lengths;
 pub mod pccpch;
 pub mod pich;
 pub mod sample;

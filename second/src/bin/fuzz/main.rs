@@ -15,6 +15,7 @@ mod case;
 mod compressed;
 mod dpch;
 mod draw;
+mod lengths;
 mod lent;
 mod uplink;
 mod wake;
@@ -29,7 +30,7 @@ use std::process::ExitCode;
 type Call = (&'static [u16], fn(&mut Draw) -> Case);
 
 /// In the order of `include/slt.h`, which is that of the table in `fuzz/calls.c`.
-const CALLS: [Call; 38] = [
+const CALLS: [Call; 46] = [
     (&[0, 8, 11], calls::pich_q),
     (&[0, 3, 4, 8], calls::pich_map),
     (&[0, 3, 4, 8, 9], calls::pich_read),
@@ -57,6 +58,14 @@ const CALLS: [Call; 38] = [
     (&[0, 3, 4, 9], calls::pccpch_read),
     (&[0, 1, 3, 4], calls::hspdsch_map),
     (&[0, 1, 3, 4, 9], calls::hspdsch_read),
+    (&[0, 1, 11], lengths::slot),
+    (&[0, 1, 11], lengths::frame),
+    (&[0, 1, 11, 27], lengths::compressed),
+    (&[0, 1, 11], lengths::dpdch),
+    (&[0, 1, 11], lengths::dpdch_frame),
+    (&[0, 1, 11], lengths::dpcch),
+    (&[0, 1, 11], lengths::dpcch_frame),
+    (&[0, 1, 11], lengths::hspdsch),
     (&[0, 3, 11], calls::aich_map),
     (&[0, 3, 10], calls::aich_read),
     (&[0, 3, 11, 26], calls::aich_map_available),

@@ -1,0 +1,125 @@
+// How long each run is that a mapper is lent: docs/RULES.md, 'Lengths of runs'. Runs are counted in the order in which the mapper tells refusal 3 of them, from 0 on.
+use dpch::frame_head;
+use run::Verdict;
+use run::or_else;
+use run::refusal;
+use run::unless;
+ghost use mathlib.Core.Path.{_≡_};
+ghost use mathlib.Core.List.{[], _∷_};
+ghost use Prim.Native.Nat.{_≤_};
+ghost use lib.ListN.{getD, take};
+ghost use Rattle.dpch.specs.Compressed.{formatIn};
+ghost use Rattle.dpch.specs.Heads.{frameHead};
+ghost use Rattle.compressed.specs.Outcome.{gapHead};
+ghost use Rattle.lengths.specs.Rule.{slotLengths, frameLengths, compressedLengths, dpdchLengths, dpcchLengths, dpcchFrameLengths, hspdschLengths};
+ghost use Rattle.lengths.specs.Outcome.{Told};
+
+// What a call here answers: the length, 0 where refused.
+pub struct Length {
+    pub verdict: Verdict,
+    pub length: usize,
+}
+
+// One of four numbers, 0 past them.
+fn nth(k: usize, a: usize, b: usize, c: usize, d: usize) -> usize
+    ensures { λ r. ⌜ r ≡ getD (a ∷ b ∷ c ∷ d ∷ []) k 0 ⌝ }
+{
+    match k {
+        0 => a,
+        1 => b,
+        2 => c,
+        3 => d,
+        _ => 0,
+    }
+}
+
+// The length of one of `count` runs, whose lengths are the first of these four; what the call's other numbers are refused with comes first.
+fn tell(head: Verdict, count: usize, run: usize, a: usize, b: usize, c: usize, d: usize) -> Length
+    requires { ⌜ count ≤ 4 ⌝ }
+    ensures { λ r. ⌜ Told head (take count (a ∷ b ∷ c ∷ d ∷ [])) run r ⌝ }
+{
+    let verdict = or_else(head, unless(run < count, refusal::RANGE, 0));
+    if verdict.number != 0 {
+        return Length { verdict, length: 0 };
+    }
+    Length {
+        verdict,
+        length: nth(run, a, b, c, d),
+    }
+}
+
+// A slot of the downlink DPCH, on either antenna.
+pub fn of_slot(format: usize, run: usize) -> Length
+    ensures { λ r. ⌜ Told (frameHead 16 format []) (slotLengths format) run r ⌝ }
+{
+    let s = slot::sizes_of(format);
+    let head = frame_head(16, format, true, true, true, true);
+    tell(head, 3, run, s.data, s.tfci, s.slot, 0)
+}
+
+// A frame of it.
+pub fn of_frame(format: usize, run: usize) -> Length
+    ensures { λ r. ⌜ Told (frameHead 16 format []) (frameLengths format) run r ⌝ }
+{
+    let s = slot::sizes_of(format);
+    let head = frame_head(16, format, true, true, true, true);
+    tell(head, 4, run, 15 * s.data, 15 * s.tfci, 15 * s.slot, 15)
+}
+
+// A compressed frame of it. The head is asked of runs that have their lengths.
+pub fn of_compressed(format: usize, kind: usize, first: usize, missing: usize, run: usize) -> Length
+    ensures { λ r. ⌜ Told (gapHead (formatIn kind format) first missing []) (compressedLengths kind format missing) run r ⌝ }
+{
+    let s = slot::row_sizes(kind, format);
+    let n = compressed::transmitted(missing);
+    let data = n * s.data;
+    let tfci = n * s.tfci;
+    let frame = 15 * s.slot;
+    let head = compressed::map_head(format, kind, first, missing, data, tfci, frame, n);
+    tell(head, 4, run, data, tfci, frame, n)
+}
+
+// A slot of the uplink DPDCH.
+pub fn of_dpdch(format: usize, run: usize) -> Length
+    ensures { λ r. ⌜ Told (frameHead 6 format []) (dpdchLengths 1 format) run r ⌝ }
+{
+    let n = dpdch::size_of(format);
+    let head = frame_head(6, format, true, true, true, true);
+    tell(head, 2, run, n, n, 0, 0)
+}
+
+// A frame of it.
+pub fn of_dpdch_frame(format: usize, run: usize) -> Length
+    ensures { λ r. ⌜ Told (frameHead 6 format []) (dpdchLengths 15 format) run r ⌝ }
+{
+    let frame = 15 * dpdch::size_of(format);
+    let head = frame_head(6, format, true, true, true, true);
+    tell(head, 2, run, frame, frame, 0, 0)
+}
+
+// A slot of the uplink DPCCH.
+pub fn of_dpcch(format: usize, run: usize) -> Length
+    ensures { λ r. ⌜ Told (frameHead 3 format []) (dpcchLengths format) run r ⌝ }
+{
+    let f = dpcch::format_of(format);
+    let head = frame_head(3, format, true, true, true, true);
+    tell(head, 3, run, f.tfci, f.fbi, f.slot, 0)
+}
+
+// A frame of it.
+pub fn of_dpcch_frame(format: usize, run: usize) -> Length
+    ensures { λ r. ⌜ Told (frameHead 3 format []) (dpcchFrameLengths format) run r ⌝ }
+{
+    let f = dpcch::format_of(format);
+    let head = frame_head(3, format, true, true, true, true);
+    tell(head, 4, run, 15 * f.tfci, 15 * f.fbi, 15 * f.slot, 15)
+}
+
+// A subframe of the HS-PDSCH.
+pub fn of_hspdsch(format: usize, run: usize) -> Length
+    ensures { λ r. ⌜ Told (frameHead 1 format []) (hspdschLengths format) run r ⌝ }
+{
+    let n = hspdsch::size_of(format);
+    let head = frame_head(1, format, true, true, true, true);
+    tell(head, 3, run, n, n, n, 0)
+}
