@@ -69,7 +69,7 @@ def ruled(tree):
 
 @functools.cache
 def words(tree):
-    """Every name that the package declares: modules, functions and their arguments, classes and their fields."""
+    """Every name that the package declares: modules, functions and their arguments, classes and their fields, and constants."""
     found = {"slt", *(pathlib.PurePosixPath(path).stem for path in modules(tree))}
     for syntax in modules(tree).values():
         for node in ast.walk(syntax):
@@ -79,6 +79,8 @@ def words(tree):
                 found.add(node.arg)
             elif isinstance(node, ast.AnnAssign) and isinstance(node.target, ast.Name):
                 found.add(node.target.id)
+            elif isinstance(node, ast.Assign):
+                found.update(target.id for target in node.targets if isinstance(target, ast.Name))
             elif isinstance(node, ast.Attribute) and isinstance(node.ctx, ast.Store):
                 found.add(node.attr)
     return found

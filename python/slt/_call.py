@@ -6,14 +6,17 @@ are new ones; every length is that of its run.
 from __future__ import annotations
 
 import ctypes
-from typing import Any, Dict, List, NamedTuple, Sequence, Tuple, Union
+from typing import Any, Dict, List, Mapping, NamedTuple, Sequence, Tuple, Union
 
 from . import _numbers, digits
-from ._lengths import WRONG_LENGTH, lengths
 from ._library import SampleStruct, apart, function
-from ._rows import CALLS, Number, Run
+from ._rows import ANY, CALLS, Like, Number, Run
 from .digits import Digits
 from .refusals import Refused
+
+WRONG_LENGTH = 3
+# No run that goes by a number is longer. A number above it is refused, whatever room there is.
+LONGEST = 1 << 16
 
 
 class Answer(NamedTuple):
@@ -27,27 +30,43 @@ class Answer(NamedTuple):
     sample: Tuple[float, float]
 
 
-def call(name: str, *given: object, rooms: Sequence[int] = ()) -> Answer:
-    """Makes a call with its numbers and the runs that it reads, in their order. The runs that it writes are as long as it asks for, or as `rooms` says."""
-    row, held = CALLS[name], converted(name, given)
-    asked: Tuple[int, ...] = ()
-    if not rooms and any(run.written for run in row.runs):
-        asked = lengths(name, *(held[argument.name] for argument in row.arguments if isinstance(argument, Number) and argument.sets_lengths)).runs
-        rooms = [length for run, length in zip(row.runs, asked) if run.written]
-    answer = made(name, held, rooms)
-    if answer.number == WRONG_LENGTH:
-        run = row.runs[answer.place].name
-        wanted = f", and {asked[answer.place]} are asked for" if asked else ""
-        raise Refused(answer.number, answer.place, f"{run} has {len(held[run])} elements{wanted}" if run in held else "")
+def call(name: str, *given: object) -> Answer:
+    """Makes a call with what it reads, in its order; a refusal is raised. The runs that it writes are as long as it asks for."""
+    answer, detail = asked(name, *given)
     if answer.number:
-        raise Refused(answer.number, answer.place)
+        raise Refused(answer.number, answer.place, detail)
     return answer
+
+
+def asked(name: str, *given: object) -> Tuple[Answer, str]:
+    """The same where a refusal is not raised yet: what is answered, and what can be said of a wrong length."""
+    row, held = CALLS[name], converted(name, given)
+    answer = made(name, held, [length(run, held) for run in row.rooms])
+    return answer, of_length(row.runs[answer.place], held) if answer.number == WRONG_LENGTH else ""
+
+
+def length(run: Run, held: Mapping[str, Any]) -> int:
+    """How long a run has to be, by what its call is given. No table of formats is written down in this package: the library tells it. Where the numbers are such that there
+    is no length it is 0, and the call itself says what is wrong with them."""
+    by = run.length
+    if isinstance(by, int):
+        return by
+    if isinstance(by, Like):
+        like = held[by.name]
+        return len(like) if hasattr(like, "__len__") else like if like <= LONGEST else 0
+    return made(by.call, {**held, "run": by.run}, []).value
+
+
+def of_length(run: Run, held: Mapping[str, Any]) -> str:
+    if run.name not in held:
+        return ""
+    wanted = length(run, held)
+    return f"{run.name} has {len(held[run.name])} elements" + (f", and {wanted} are asked for" if wanted != ANY else "")
 
 
 def converted(name: str, given: Sequence[object]) -> Dict[str, Any]:
     """The arguments that are given, by their names: each number as C takes it, each run in memory of its own."""
-    read = [argument for argument in CALLS[name].arguments if isinstance(argument, Number) or argument.given]
-    return {argument.name: copied(argument, value) for argument, value in zip(read, given)}
+    return {argument.name: copied(argument, value) for argument, value in zip(CALLS[name].read, given)}
 
 
 def copied(argument: Union[Number, Run], value: object) -> Any:
@@ -55,7 +74,7 @@ def copied(argument: Union[Number, Run], value: object) -> Any:
         return _numbers.converted(argument.name, value, argument.kind)
     kind = _numbers.WHOLE[argument.kind]
     if argument.kind == "uint8_t":
-        held = digits.of(argument.name, value)
+        held = _numbers.raw(argument.name, value) if argument.raw else digits.of(argument.name, value)
         return (kind * len(held)).from_buffer_copy(held)
     numbers = _numbers.elements(argument.name, [value] if argument.fixed == 1 else value, argument.kind)
     if argument.fixed and len(numbers) != argument.fixed:
@@ -63,17 +82,18 @@ def copied(argument: Union[Number, Run], value: object) -> Any:
     return (kind * len(numbers))(*numbers)
 
 
-def made(name: str, held: Dict[str, Any], rooms: Sequence[int]) -> Answer:
+def made(name: str, held: Mapping[str, Any], rooms: Sequence[int]) -> Answer:
     """Makes a call on arguments that are converted, with rooms of these lengths."""
     ahead = iter(rooms)
     arguments: List[Any] = []
     written: List[Any] = []
     for argument in CALLS[name].arguments:
-        lent = held[argument.name] if argument.name in held else (_numbers.WHOLE[argument.kind] * next(ahead))()
-        arguments.append(lent)
-        if isinstance(argument, Run):
-            arguments += [len(lent)] * argument.counted
-            written += [lent] * argument.written
+        if isinstance(argument, Number):
+            arguments.append(held[argument.name])
+            continue
+        lent = held[argument.name] if argument.given else (_numbers.WHOLE[argument.kind] * next(ahead))()
+        arguments += [lent, len(lent)] if argument.counted else [lent]
+        written += [lent] * argument.written
     answer, sample = function(name)(*arguments), (0.0, 0.0)
     if isinstance(answer, SampleStruct):
         answer, sample = answer.answer, (answer.inphase, answer.quadrature)

@@ -46,6 +46,11 @@ def elements(name: str, value: Any, kind: str, wanted: str = "a sequence of whol
     return [whole(f"{name}[{place}]", number, kind) for place, number in enumerate(found)]
 
 
+def raw(name: str, value: Any) -> bytes:
+    """Bytes that are no digits: given as such, or as a sequence of small numbers."""
+    return bytes(value) if isinstance(value, (bytes, bytearray)) else bytes(elements(name, value, "uint8_t", "bytes, or a sequence of small numbers,"))
+
+
 def signatures(name: str, value: Any) -> int:
     """A set of signatures as C has it, bit s for signature s: given as that number, or as the signatures in it."""
     if hasattr(type(value), "__index__"):

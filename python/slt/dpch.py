@@ -1,4 +1,4 @@
-"""Downlink DPCH: slots on one or two antennas, and frames (docs/RULES.md, 'DPCH slot' and 'DPCH on the second antenna')."""
+"""Downlink DPCH: slots on one or two antennas, frames, and compressed frames (docs/RULES.md, 'DPCH slot', 'DPCH on the second antenna' and 'Compressed frames')."""
 from __future__ import annotations
 
 from typing import NamedTuple
@@ -6,7 +6,18 @@ from typing import NamedTuple
 from ._call import call
 from .digits import Digits, DigitsLike
 
-__all__ = ["SlotFields", "FrameFields", "slot_map", "slot_read", "slot_map_antenna", "slot_read_antennas", "frame_map", "frame_read"]
+__all__ = [
+    "SlotFields",
+    "FrameFields",
+    "slot_map",
+    "slot_read",
+    "slot_map_antenna",
+    "slot_read_antennas",
+    "frame_map",
+    "frame_read",
+    "compressed_map",
+    "compressed_read",
+]
 
 
 class SlotFields(NamedTuple):
@@ -55,4 +66,16 @@ def frame_map(format: int, *, commands: DigitsLike, data: DigitsLike, tfci: Digi
 def frame_read(format: int, frame: DigitsLike) -> FrameFields:
     """The fields of a downlink DPCH frame."""
     data, tfci, commands = call("slt_frame_read", format, frame).digits
+    return FrameFields(commands, data, tfci)
+
+
+def compressed_map(format: int, kind: int, first: int, missing: int, *, commands: DigitsLike, data: DigitsLike, tfci: DigitsLike = b"") -> Digits:
+    """The digits of a compressed downlink DPCH frame, of kind 1 (A) or 2 (B), in which `missing` slots from `first` on are not transmitted. The fields are those of
+    the transmitted slots alone."""
+    return call("slt_compressed_map", format, kind, first, missing, data, tfci, commands).digits[0]
+
+
+def compressed_read(format: int, kind: int, first: int, missing: int, frame: DigitsLike) -> FrameFields:
+    """The fields of the transmitted slots of a compressed downlink DPCH frame."""
+    data, tfci, commands = call("slt_compressed_read", format, kind, first, missing, frame).digits
     return FrameFields(commands, data, tfci)

@@ -8,11 +8,12 @@ from dataclasses import dataclass
 from typing import ClassVar, Dict, Iterable, Iterator, List, NamedTuple, Sequence, Tuple, Type, Union
 
 from . import _numbers
-from ._lengths import lengths
+from ._rows import SIGNATURES
 from .aich import aich_map
 from .digits import Digits, DigitsLike
 from .dpch import slot_map
-from .pich import pich_map
+from .lengths import slot_lengths
+from .pich import pich_map, pich_q
 from .refusals import Refused
 
 __all__ = ["Aich", "Pich", "Dpch", "Record", "Job", "FileRefused", "lines"]
@@ -116,14 +117,6 @@ class Reader:
             raise FileRefused(refusal.number, refusal.place, begin) from None
 
 
-def asked(name: str, *by: int) -> Tuple[int, ...]:
-    """How long a mapper's runs are, or its refusal of a format or an Np."""
-    found = lengths(name, *by)
-    if found.refused:
-        raise Refused(found.refused, 0)
-    return found.runs
-
-
 def in_byte(name: str, value: object) -> bytes:
     return bytes([_numbers.whole(name, value, "uint8_t")])
 
@@ -147,8 +140,7 @@ class Aich:
 
     @classmethod
     def read(cls, reader: Reader) -> Aich:
-        count, _ = asked("slt_aich_map")
-        return cls([-1 if byte == 2 else byte for byte in reader.take(count)])
+        return cls([-1 if byte == 2 else byte for byte in reader.take(SIGNATURES)])
 
     def line(self) -> str:
         return " ".join(["AICH", *map(str, aich_map(self.indicators))])
@@ -172,8 +164,8 @@ class Pich:
     @classmethod
     def read(cls, reader: Reader) -> Pich:
         np = reader.byte()
-        count, _ = asked("slt_pich_map", np)
-        return cls(np, reader.take(count))
+        pich_q(np, 0, 0)  # refused where there is no such Np
+        return cls(np, reader.take(np))
 
     def line(self) -> str:
         return f"PICH {self.np} {pich_map(self.np, self.indicators)}"
@@ -201,7 +193,7 @@ class Dpch:
     @classmethod
     def read(cls, reader: Reader) -> Dpch:
         format = reader.byte()
-        data, tfci, _ = asked("slt_slot_map", format)
+        data, tfci = slot_lengths(format, 0), slot_lengths(format, 1)
         rest = reader.take(2 + tfci + data)
         return cls(format, rest[0], tpc=rest[1], data=rest[2 + tfci :], tfci=rest[2 : 2 + tfci])
 

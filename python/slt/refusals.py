@@ -5,7 +5,7 @@ from typing import Dict
 
 # The one table, in the words of docs/RULES.md, 'Numbers a call can return': the audit compares it with that table.
 SENTENCES: Dict[int, str] = {
-    1: "the channel's own table has no such format: DPCH above 16, DPDCH above 6, DPCCH above 3",
+    1: "the channel's own table has no such format: DPCH above 16, DPDCH above 6, DPCCH above 3, HS-PDSCH above 1; of a compressed frame, no such kind of the format",
     2: "the slot number is above 14",
     3: "a lent run has the wrong length",
     4: "a digit is not allowed",
@@ -13,7 +13,7 @@ SENTENCES: Dict[int, str] = {
     6: "a TFCI field of the downlink is mixed: it has both bits and DTX",
     7: "the pilot differs from the table",
     8: "Np is not 18, 36, 72 or 144",
-    9: "a PICH or P-CCPCH frame, or the second stream of a DPCH slot, that no fields give",
+    9: "a PICH or P-CCPCH frame, or the second stream of a DPCH slot or of an HS-PDSCH subframe, that no fields give; in a compressed frame a missing slot that is not silent",
     10: "AICH values that no indicators give",
     11: "a number is outside its range",
     12: "both gains are zero",
@@ -24,6 +24,8 @@ SENTENCES: Dict[int, str] = {
     24: "a job file ends early, in its header or in a record",
     25: "bytes stand behind the last record",
     26: "an indicator other than 0 of a signature that is not available",
+    27: "a gap leaves too few or too many slots of a compressed frame, or runs past slot 14",
+    32: "a count of frames stands at 4294967295",
 }
 
 

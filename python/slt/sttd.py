@@ -3,7 +3,6 @@ from __future__ import annotations
 
 from typing import List, Sequence
 
-from . import digits
 from ._call import call
 from .digits import Digits, DigitsLike
 
@@ -12,8 +11,7 @@ __all__ = ["sttd_digits", "sttd_values"]
 
 def sttd_digits(input: DigitsLike) -> Digits:
     """Antenna 2's digits for antenna 1's, block by block."""
-    run = digits.of("input", input)
-    return call("slt_sttd_digits", run, rooms=[len(run)]).digits[0]
+    return call("slt_sttd_digits", input).digits[0]
 
 
 def sttd_values(input: Sequence[int]) -> List[int]:

@@ -24,6 +24,8 @@ NAMED: Dict[str, Tuple[str, Dict[str, str]]] = {
     "antennas read": ("slot_read_antennas", {}),
     "frame map": ("frame_map", {}),
     "frame read": ("frame_read", {"digits": "frame"}),
+    "compressed map": ("compressed_map", {}),
+    "compressed read": ("compressed_read", {"digits": "frame"}),
     "DPDCH map": ("dpdch_map", {}),
     "DPDCH read": ("dpdch_read", {"digits": "run"}),
     "DPDCH frame map": ("dpdch_frame_map", {}),
@@ -35,17 +37,31 @@ NAMED: Dict[str, Tuple[str, Dict[str, str]]] = {
     "PICH q": ("pich_q", {}),
     "PICH map": ("pich_map", {}),
     "PICH read": ("pich_read", {}),
+    "wake run": ("wake_run", {"SFN": "next_sfn"}),
+    "wake step": ("wake_step", {"SFN": "next_sfn", "frames": "frame"}),
     "STTD digits": ("sttd_digits", {"digits": "input"}),
     "STTD values": ("sttd_values", {"values": "input"}),
     "P-CCPCH map": ("pccpch_map", {}),
     "P-CCPCH read": ("pccpch_read", {}),
+    "HS-PDSCH map": ("hspdsch_map", {}),
+    "HS-PDSCH read": ("hspdsch_read", {}),
     "AICH map": ("aich_map", {}),
     "AICH read": ("aich_read", {}),
     "AICH available map": ("aich_map_available", {"set": "available"}),
     "AICH available read": ("aich_read_available", {"set": "available"}),
+    "desk serve": ("desk_serve", {}),
+    "desk to AICH": ("desk_to_aich", {}),
+    "desk to message": ("desk_to_message", {}),
     "AICH combine": ("aich_combine", {}),
     "sample": ("sample", {}),
 }
+
+# The calls that tell lengths have no cases: docs/RULES.md has what they tell (test_lengths).
+LENGTHS = sorted(name[len("slt_") :] for name in CALLS if name.endswith("_lengths"))
+GAP = {"kind": 1, "first": 4, "missing": 3}
+
+
+TALLY = ("read", "woke", "next_sfn")
 
 
 class Case(NamedTuple):
@@ -66,7 +82,7 @@ class Case(NamedTuple):
     @property
     def room_refused(self) -> bool:
         """A run that is written has the wrong length, which a caller of the functions cannot bring about."""
-        return self.number == 3 and self.row.runs[self.place].written
+        return self.number == 3 and not self.row.runs[self.place].given
 
 
 def pairs(text: str) -> Dict[str, str]:
@@ -85,7 +101,16 @@ def value(row: Row, name: str, text: str) -> Any:
     argument = {argument.name: argument for argument in row.arguments}.get(name, Number(name, "size_t"))
     if isinstance(argument, Number) or argument.fixed == 1:
         return int(text)
-    return [int(digit) for digit in text] if argument.kind == "uint8_t" else [int(part) for part in text.split(",") if part]
+    return digits(text) if argument.kind == "uint8_t" else [int(part) for part in text.split(",") if part]
+
+
+def digits(text: str) -> List[int]:
+    """Digits; a long run is told by what it repeats and up to how many digits, and by what stands behind those."""
+    found = []
+    for part in text.split(","):
+        repeated, star, length = part.partition("*")
+        found += [int(repeated[place % len(repeated)]) for place in range(int(length) if star else len(part))]
+    return found
 
 
 def values(function: str, names: Dict[str, str], found: Dict[str, str]) -> Dict[str, Any]:
@@ -95,7 +120,13 @@ def values(function: str, names: Dict[str, str], found: Dict[str, str]) -> Dict[
         del found["gains"]
     row = CALLS["slt_" + function]
     renamed = {names.get(key, key.lower()): text for key, text in found.items()}
-    return {key: value(row, key, text) for key, text in renamed.items()}
+    given = {key: value(row, key, text) for key, text in renamed.items()}
+    return with_tally(given) if function == "wake_step" else given
+
+
+def with_tally(given: Dict[str, Any]) -> Dict[str, Any]:
+    """The three numbers of a wake simulation as the one tally that they are to Python, and to C where it takes one frame."""
+    return {**{key: part for key, part in given.items() if key not in TALLY}, "tally": [given[key] for key in TALLY]}
 
 
 def sample_case(line: str, asked: Dict[str, str], told: Dict[str, str], number: int, place: int) -> Case:
@@ -116,7 +147,7 @@ def of_line(line: str) -> Case:
     if function == "sample":
         return sample_case(line, pairs(asked), pairs(told), int(number), int(place))
     given = values(function, names, pairs(asked))
-    rooms = [len(given.pop(run.name)) for run in CALLS["slt_" + function].runs if run.written]
+    rooms = [len(given.pop(run.name)) for run in CALLS["slt_" + function].rooms]
     return Case(line, function, given, rooms, int(number), int(place), values(function, names, pairs(told)))
 
 
@@ -133,16 +164,16 @@ def job_cases() -> List[Tuple[bytes, str]]:
 
 
 def arguments(case: Case) -> Dict[str, Any]:
-    """The arguments of a case as the function takes them: gains are pairs."""
-    given = dict(case.given)
+    """The arguments of a case as the function takes them: gains are pairs, and a tally is one."""
+    given = with_tally(case.given) if case.function == "wake_run" else dict(case.given)
     if case.function == "aich_combine":
         given["h1"], given["h2"] = [(given.pop(f"{gain}_re"), given.pop(f"{gain}_im")) for gain in ("h1", "h2")]
     return given
 
 
 def good() -> Dict[str, Dict[str, Any]]:
-    """Good arguments for each function: those of its first case that is done."""
-    found: Dict[str, Dict[str, Any]] = {}
+    """Good arguments for each function: those of its first case that is done; of one that tells lengths the first format and run."""
+    found: Dict[str, Dict[str, Any]] = {name: {"format": 0, **(GAP if name.startswith("compressed") else {}), "run": 0} for name in LENGTHS}
     for case in cases():
         if case.number == 0:
             found.setdefault(case.function, arguments(case))

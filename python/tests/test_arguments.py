@@ -39,8 +39,10 @@ def kind(function: str, name: str) -> str:
     """What a function takes by a name: the C type of the number, or of the run's elements with a star."""
     if function == "aich_combine" and name in ("h1", "h2"):
         return "gain"
+    if name == "tally":
+        return "tally"
     argument = {argument.name: argument for argument in CALLS["slt_" + function].arguments}[name]
-    return argument.kind if isinstance(argument, Number) else argument.kind + "*"
+    return argument.kind if isinstance(argument, Number) or argument.fixed == 1 else argument.kind + "*"
 
 
 NO_NUMBER: List[Any] = [None, 1.0, "1", b"1", [1], (), {}, object(), 1j, decimal.Decimal(1), fractions.Fraction(1), Real(), int, Ellipsis]
@@ -53,6 +55,7 @@ WRONG_TYPE: Dict[str, List[Any]] = {
     "uint16_t": [None, 1.0, "1", {1: 1}, object(), [None], {"1"}, {1.0}, int],
     "float": [None, "1", b"1", [1.0], {}, object(), 1j, float],
     "gain": [None, 1.0, "1", {}, object(), [1.0, 0], ["1", "2"]],
+    "tally": NO_RUN + ["000", [0, 0, None], (0, 0.0, 0)],
     "uint8_t*": NO_RUN + [memoryview(b"01").cast("c")],
     "int32_t*": NO_RUN + ["0101", "", memoryview(b"01").cast("c")],
 }
@@ -64,6 +67,7 @@ WRONG_VALUE: Dict[str, List[Any]] = {
     "uint16_t": [-1, 1 << 16, [16], {0, 99}, {-1}, [1 << 70]],
     "float": [1 << 2000],
     "gain": [1 << 63, (0, 1 << 63), (1,), (1, 2, 3), 0.5 + 0j, complex(0, float("inf")), complex(float("nan"), 0), 1e30j],
+    "tally": [(), (0, 0), [0] * 4, (0, 0, 1 << 32), (-1, 0, 0)],
     "uint8_t*": [[256], [-1], [1 << 70], "012", "01 ", "0\n", "O", "0１", array.array("h", [300])],
     "int32_t*": [[1 << 31], [-(1 << 31) - 1], [1 << 64]],
 }

@@ -3,11 +3,11 @@ from __future__ import annotations
 
 import struct
 import unittest
-from typing import Any
+from typing import Any, Dict
 
 import slt
 from slt import _call
-from slt._rows import CALLS
+from slt._rows import CALLS, Run
 
 from . import support
 
@@ -23,10 +23,16 @@ def plain(found: Any) -> Any:
 
 def named(case: support.Case, found: Any) -> Any:
     """What a function answers, by the names of the case."""
+    if case.function == "wake_step":
+        return {"tally": list(found)}
     if hasattr(found, "_asdict"):
         return found._asdict()
-    written = [run.name for run in case.row.runs if run.written]
-    return {written[0] if written else "q": found}
+    rooms = [run.name for run in case.row.rooms]
+    return {rooms[0] if rooms else next(iter(case.answered)): found}
+
+
+def by_name(found: Dict[str, Any]) -> Dict[str, Any]:
+    return {key: plain(part) for key, part in found.items()}
 
 
 class Cases(unittest.TestCase):
@@ -37,31 +43,33 @@ class Cases(unittest.TestCase):
             with self.subTest(case.line):
                 try:
                     found = getattr(slt, case.function)(**support.arguments(case))
+                except slt.WakeRefused as refusal:
+                    self.assertEqual((refusal.number, refusal.place, refusal.tally._asdict()), (case.number, case.place, case.answered))
                 except slt.Refused as refusal:
                     self.assertEqual((refusal.number, refusal.place), (case.number, case.place))
                 else:
                     self.assertEqual(case.number, 0)
-                    self.assertEqual({key: plain(part) for key, part in named(case, found).items()}, {key: plain(part) for key, part in case.answered.items()})
+                    self.assertEqual(by_name(named(case, found)), by_name(case.answered))
 
     def test_calls(self) -> None:
-        """Those too in which a run that is written has the wrong length, by the call under the functions."""
+        """Those too in which a run that is written has the wrong length, by the call under the functions. What a call is given and writes is there where it is refused, too."""
         for case in CASES:
             name = "slt_" + case.function
             given = [case.given[argument.name] for argument in case.row.arguments if argument.name in case.given]
             with self.subTest(case.line):
                 answer = _call.made(name, _call.converted(name, given), case.rooms)
                 self.assertEqual((answer.number, answer.place), (case.number, case.place))
-                self.assertEqual(answer.value, case.answered.get("tpc", case.answered.get("q", 0)))
-                written = plain([list(part) for part in [*answer.digits, *answer.values]])
-                if case.number == 0 and written:
-                    self.assertEqual(written, [case.answered[run.name] for run in case.row.runs if run.written])
+                self.assertEqual(answer.value, next((case.answered[key] for key in ("tpc", "q", "chips") if key in case.answered), 0))
+                written = zip([run for run in case.row.arguments if isinstance(run, Run) and run.written], [*answer.digits, *answer.values])
+                found = {run.name: part[0] if run.fixed == 1 else plain(part) for run, part in written if run.given or not case.number}
+                self.assertEqual(found, {key: case.answered[key] for key in found})
 
     def test_all_are_asked(self) -> None:
         """Each function has a case that is done and one that is refused, and every call has its function."""
-        done = {"slt_" + case.function for case in CASES if case.number == 0}
-        refused = {"slt_" + case.function for case in CASES if case.number and not case.room_refused}
-        self.assertEqual(done, CALLS.keys())
-        self.assertEqual(refused, CALLS.keys())
+        done = {case.function for case in CASES if case.number == 0}
+        refused = {case.function for case in CASES if case.number and not case.room_refused}
+        self.assertEqual({"slt_" + name for name in done.union(support.LENGTHS)}, CALLS.keys())
+        self.assertEqual(done, refused)
 
     def test_jobs(self) -> None:
         found = support.job_cases()

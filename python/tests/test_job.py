@@ -9,7 +9,7 @@ from typing import List
 from unittest import mock
 
 import slt
-from slt import _lengths, job
+from slt import job
 from slt.job import Aich, Dpch, FileRefused, Job, Pich
 
 from . import support
@@ -47,7 +47,7 @@ def record(chance: random.Random) -> job.Record:
         np = chance.choice([18, 36, 72, 144])
         return Pich(np, chance.choices([0, 1], k=np))
     format = chance.choice(range(chance.choice([2, 12, 17])))
-    data, tfci, _ = _lengths.lengths("slt_slot_map", format).runs
+    data, tfci = slt.slot_lengths(format, 0), slt.slot_lengths(format, 1)
     field = [2] * tfci if chance.random() < 0.3 else chance.choices([0, 1], k=tfci)
     return Dpch(format, chance.randrange(15), tpc=chance.randrange(2), data=chance.choices([0, 1, 2], k=data), tfci=field)
 

@@ -36,11 +36,14 @@ class Complete(unittest.TestCase):
             self.assertTrue(inspect.getdoc(getattr(slt, function)), function)
 
     def test_functions_and_calls_have_the_same_arguments(self) -> None:
-        """But for the gains, of which each is one."""
+        """But for the gains, of which each is one, and for the tally, which is one, too."""
         for name, row in CALLS.items():
-            wanted = [argument.name for argument in row.arguments if not getattr(argument, "written", False)]
+            wanted = ["tally" if argument.name in support.TALLY else argument.name for argument in row.read]
             found = list(inspect.signature(getattr(slt, name[len("slt_") :])).parameters)
             self.assertEqual(sorted({re.sub(r"^(h\d)_(re|im)$", r"\1", argument) for argument in wanted}), sorted(found), name)
+
+    def test_a_fresh_desk(self) -> None:
+        self.assertIn(f"#define SLT_DESK_FRESH {slt.DESK_FRESH}u\n", support.HEADER)
 
     def test_all_that_is_named_is_there(self) -> None:
         for name in slt.__all__:

@@ -32,6 +32,8 @@ EVERY: Dict[int, Tuple[int, Callable[[], object]]] = {
     24: (6, lambda: job.Job.read(b"SLT\x00\x01\x01")),
     25: (6, lambda: job.Job.read(b"SLT\x00\x01\x00\x00")),
     26: (1, lambda: slt.aich_map_available({0, 2}, [0, 1] + [0] * 14)),
+    27: (0, lambda: slt.compressed_map(0, 2, 13, 3, commands="0" * 12, data="0" * 96)),
+    32: (0, lambda: slt.wake_run((0xFFFFFFFF, 0, 0), 18, 5, "0" * 288 + "-" * 12)),
 }
 
 
@@ -54,6 +56,16 @@ class Refusals(unittest.TestCase):
         with self.assertRaises(slt.Refused) as raised:
             slt.sttd_digits("011")
         self.assertIn("input has 3 elements", str(raised.exception))
+
+    def test_a_refused_frame_is_told_by_the_tally(self) -> None:
+        good, bad = slt.pich_map(18, "01" * 9), "0" * 299 + "1"
+        with self.assertRaises(slt.WakeRefused) as raised:
+            slt.wake_run(slt.Tally(next_sfn=4095), 18, 5, (good * 2) + bad + good)
+        self.assertEqual((raised.exception.number, raised.exception.place), (9, 288))
+        self.assertEqual(raised.exception.tally[::2], (2, 1))
+        with self.assertRaises(slt.WakeRefused) as raised:
+            slt.wake_run((1, 1, 7), 18, 5, good[:-1])
+        self.assertEqual((raised.exception.tally, raised.exception.detail), ((1, 1, 7), "frames has 299 elements"))
 
     def test_it_is_a_value_error(self) -> None:
         self.assertTrue(issubclass(slt.Refused, ValueError))

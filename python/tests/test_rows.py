@@ -43,7 +43,7 @@ def step(tally: int, by: int) -> int:
 
 MADE: Dict[str, Any] = {
     "slt_test_step": (row(state("tally", "uint32_t", 3, "slt_tally"), size("by")), step),
-    "slt_test_serve": (row(state("last", "size_t"), size("n"), room("values", "int32_t")), serve),
+    "slt_test_serve": (row(state("last", "size_t"), size("n"), room("values", 2, "int32_t")), serve),
     "slt_test_keep": (row(store("bank"), given("slot")), keep),
 }
 
@@ -81,6 +81,10 @@ class Kinds(unittest.TestCase):
         bank = bytearray(b"\7\7\7\7")
         answer = _call.call("slt_test_keep", bank, "01-")
         self.assertEqual((answer.digits, bank), ([b"\0\1\2\7"], b"\7\7\7\7"))
+        self.assertEqual(_call.call("slt_test_keep", [9, 255], "1").digits, [b"\1\xff"])
+        for wrong, error in (("01", TypeError), (None, TypeError), (7, TypeError), ([256], ValueError), ([None], TypeError)):
+            with self.assertRaises(error):
+                _call.call("slt_test_keep", wrong, "1")
         with self.assertRaises(slt.Refused) as raised:
             _call.call("slt_test_keep", b"", "01-")
         self.assertIn("slot has 3 elements", str(raised.exception))

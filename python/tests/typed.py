@@ -21,6 +21,11 @@ values: List[int] = slt.aich_map_available({0, 5}, (1, 0, 0, 0, 0, -1) + (0,) * 
 results: List[int] = slt.aich_combine(3 + 4j, (0, 0), values)
 sample: Tuple[float, float] = slt.sample_each(1, -1, 0.5, 2, antenna=0)
 frames: Dict[str, slt.Digits] = slt.pccpch_map(range(0, 1) and b"\0" * 270)._asdict()
+compressed: slt.FrameFields = slt.compressed_read(0, 2, 4, 3, slt.compressed_map(0, 2, 4, 3, commands="0" * 12, data="0" * 96))
+streams: slt.Antennas = slt.hspdsch_map(0, b"\0" * slt.hspdsch_lengths(0, 0))
+tally: slt.Tally = slt.wake_run(slt.Tally(next_sfn=4095), 18, 5, slot)
+tally = slt.wake_step((0, 0, 0), 18, 5, slot)
+last: int = slt.desk_serve(slt.DESK_FRESH, {1, 2}, 0xFFFF, 4).last
 job: Job = Job([Aich(values[:16]), Pich(18, "0" * 18), Dpch(1, 1, tpc=1, data="10", tfci="01")])
 lines: List[str] = slt.job.lines(bytes(job))
 try:
@@ -33,6 +38,8 @@ slt.slot_map(9, 3, tpc="1", data="01")  # type: ignore[arg-type]
 slt.slot_map("9", 3, tpc=1, data="01")  # type: ignore[arg-type]
 slt.slot_map(9, 3, data="01")  # type: ignore[call-arg]
 slt.aich_map("0" * 16)  # type: ignore[arg-type]
+slt.wake_run(7, 18, 5, slot)  # type: ignore[arg-type]
+slt.desk_serve(slt.DESK_FRESH, "01", 0, 4)  # type: ignore[arg-type]
 slt.pich_q(18, 5)  # type: ignore[call-arg]
 number: int = slt.pich_map(18, "0" * 18)  # type: ignore[assignment]
 Job([slot])  # type: ignore[list-item]
