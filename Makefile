@@ -101,6 +101,7 @@ jobs: judges slotline
 	$(SECOND)/jobs $(abspath $(PROGRAM)) examples
 	sh examples/try_generator.sh $(abspath $(PROGRAM)) target/generator
 	$(SECOND)/jobs --print < target/generator/job.slt | cmp - target/generator/expected
+	$(SECOND)/jobs --print < target/generator/thousands.slt | cmp - target/generator/thousands.printed
 	python3 examples/try_mistakes.py $(PROGRAM)
 	python3 examples/try_mistakes.py $(SECOND)/jobs --print
 

@@ -51,7 +51,7 @@ extern "C" {
 #define SLT_REFUSED_GAINS 12u  /* both gains zero */
 
 /* Of a job file, which the program slotline reads: no call gives them. The place is a byte offset. */
-#define SLT_REFUSED_OVER_LONG 20u   /* more than 65535 bytes */
+#define SLT_REFUSED_OVER_LONG 20u   /* more bytes than its version may have */
 #define SLT_REFUSED_MARK 21u        /* wrong mark */
 #define SLT_REFUSED_VERSION 22u     /* version not known */
 #define SLT_REFUSED_KIND 23u        /* kind not known */

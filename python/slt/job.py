@@ -41,7 +41,10 @@ class Version(NamedTuple):
 
 
 # The versions that slotline reads, the lowest first.
-VERSIONS: Sequence[Version] = (Version(1, count_bytes=1, longest=65535, counted_first=True),)
+VERSIONS: Sequence[Version] = (
+    Version(1, count_bytes=1, longest=65535, counted_first=True),
+    Version(2, count_bytes=2, longest=1048576, counted_first=False),
+)
 
 
 class FileRefused(Refused):
