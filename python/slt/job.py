@@ -79,24 +79,19 @@ class Reader:
     def byte(self) -> int:
         return self.take(1)[0]
 
-    def count_first(self, versions: Sequence[Version]) -> None:
-        """Where all of these versions count first, a file that is too long for each of them is refused before anything else."""
-        longest = max(version.longest for version in versions)
-        if all(version.counted_first for version in versions) and len(self.data) > longest:
-            raise FileRefused(OVER_LONG, longest, longest)
-
     def header(self) -> Tuple[Version, int]:
         """The version and the count. A byte of the mark or of the version that no version has is told where it stands."""
         versions = list(VERSIONS)
-        self.count_first(versions)
         for offset in range(len(versions[0].head)):
             byte = self.byte()
             versions = [version for version in versions if version.head[offset] == byte]
             if not versions:
                 raise FileRefused(WRONG_MARK if offset < len(MARK) else UNKNOWN_VERSION, offset, offset)
-        self.count_first(versions)
-        self.longest = versions[0].longest
-        return versions[0], int.from_bytes(self.take(versions[0].count_bytes), "big")
+        (version,) = versions
+        if version.counted_first and len(self.data) > version.longest:
+            raise FileRefused(OVER_LONG, version.longest, version.longest)
+        self.longest = version.longest
+        return version, int.from_bytes(self.take(version.count_bytes), "big")
 
     def records(self, count: int) -> Iterator[Part]:
         """Each record, and then the file's end. The first refusal ends it."""

@@ -16,6 +16,7 @@ from . import support
 
 EXAMPLES = support.ROOT / "examples"
 SLOT = Dpch(1, 1, tpc=1, data="10", tfci="01")
+LONG = Dpch(16, 0, tpc=0, data="0" * 1248, tfci="0" * 8)
 # Records that are refused, and how.
 BAD = {
     Dpch(17, 0, tpc=0, data="1"): "refused 1 0",
@@ -66,15 +67,30 @@ def files() -> List[bytes]:
     jobs = [bytes(Job(record(chance) for _ in range(chance.randrange(8)))) for _ in range(40)]
     found += [bytes(Job([SLOT, bad, SLOT])) for bad in BAD]
     found += jobs + [damaged(chance, chance.choice(jobs)) for _ in range(200)]
-    long = Dpch(16, 0, tpc=0, data="0" * 1248, tfci="0" * 8)
-    fifty_two = b"SLT\0\1" + bytes([52]) + bytes(long) * 52
-    found += [b"", b"S", b"SLT\0\1", b"SLT\0\2\0", b"SLT\0\2\0\0", bytes(Job([])), bytes(Job([SLOT] * 255)), fifty_two]
+    fifty_two = b"SLT\0\1" + bytes([52]) + bytes(LONG) * 52
+    found += [b"", b"S", b"SLT\0\1", b"SLT\0\2\0", b"SLT\0\2\0\0", bytes(Job([])), bytes(Job([SLOT] * 255)), bytes(Job([SLOT] * 3000)), fifty_two]
+    found += [bytes(Job(records, version=2)) for records in ([], [SLOT], [SLOT] * 256, [*BAD])] + [b"SLT\0\3\0\0", b"SLT\2\0\0\0", b"SLT\0\2\0\1", b"SLT\0\2\1\0" + bytes(SLOT)]
+    found += [damaged(chance, bytes(Job(Job.read(chance.choice(jobs)).records, version=2))) for _ in range(100)]
     return found + [(mark + fifty_two[3:]).ljust(length, b"\0")[:length] for mark in (b"SLT", b"slt") for length in (65534, 65535, 65536, 65537, 70000)]
+
+
+def at_the_limit() -> List[bytes]:
+    """Files of version 2 at their limit: records that end there, and bytes behind them; a record that crosses it, and one with only its kind before it, good and bad."""
+    limit, long, aich = job.VERSIONS[1].longest, bytes(LONG), bytes(Aich([0] * 16))
+    body = long * 832
+    whole = body + aich + bytes(SLOT) * 29
+    assert 7 + len(whole) == limit
+    crossing = [body + long, body + long[:9] + b"\7" * len(long)]
+    kind_alone = [body + bytes(SLOT) * 31 + kind + b"\0" * 20 for kind in b"\3 \2 \1 \t".split()]
+    ends = [(862, whole + end) for end in (b"", b"\0", long)] + [(863, whole), (863, whole + long)]
+    ends += [(833, data[: limit - 7 + more]) for data in crossing for more in (-1, 0, 1)] + [(833, crossing[0])]
+    ends += [(864, data[: limit - 7 + more]) for data in kind_alone for more in (0, 1)]
+    return [b"SLT\0\2" + count.to_bytes(2, "big") + data for count, data in ends]
 
 
 class AgainstSlotline(unittest.TestCase):
     def test_lines(self) -> None:
-        tried = files()
+        tried = files() + at_the_limit()
         with concurrent.futures.ThreadPoolExecutor(2) as pool:
             wanted = list(pool.map(by_slotline, tried))
         for data, text in zip(tried, wanted):
@@ -100,7 +116,7 @@ class Reading(unittest.TestCase):
 
     def test_refused(self) -> None:
         """What is raised is what slotline prints last, and the offset is that of the record."""
-        for data in files():
+        for data in files() + at_the_limit()[:3]:
             last = job.lines(data)[-1]
             if last.startswith("refused "):
                 with self.subTest(data[:60]), self.assertRaises(FileRefused) as raised:
@@ -148,13 +164,14 @@ class Writing(unittest.TestCase):
                 wrong()
 
     def test_too_large(self) -> None:
-        most, long = job.VERSIONS[-1], Dpch(16, 0, tpc=0, data="0" * 1248, tfci="0" * 8)
-        for many in ([SLOT] * (most.most_records + 1), [long] * (most.longest // 1260 + 1)):
+        most = job.VERSIONS[-1]
+        for many in ([SLOT] * (most.most_records + 1), [LONG] * (most.longest // 1260 + 1)):
             with self.assertRaises(ValueError) as raised:
                 bytes(Job(many))
             self.assertIn(f"{most.most_records} records and {most.longest} bytes", str(raised.exception))
-        with self.assertRaises(ValueError):
-            bytes(Job([SLOT], version=7))
+        for records, version in (([SLOT], 7), ([SLOT] * 256, 1), ([LONG] * 53, 1)):
+            with self.assertRaises(ValueError):
+                bytes(Job(records, version=version))
 
     def test_equal(self) -> None:
         self.assertEqual(Job([SLOT]), Job([SLOT], version=1))
@@ -221,6 +238,7 @@ class Widths(unittest.TestCase):
     def test_lowest_that_holds(self) -> None:
         with mock.patch.object(job, "VERSIONS", [job.VERSIONS[0], self.WIDE._replace(longest=1 << 20)]):
             self.assertEqual([bytes(Job([SLOT] * count))[4] for count in (0, 255, 256)], [1, 1, 2])
+            self.assertEqual([bytes(Job([LONG] * count))[4] for count in (52, 53)], [1, 2])
             self.assertEqual(Job.read(bytes(Job([SLOT] * 256))).version, 2)
             self.assertEqual(bytes(Job([SLOT], version=2))[:7], b"SLT\0\2\0\1")
-            self.assertEqual(len(job.lines(bytes(Job([SLOT] * 5000)))), 5001)
+            self.assertEqual(len(job.lines(bytes(Job([SLOT] * 1000)))), 1001)
