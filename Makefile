@@ -30,8 +30,9 @@ endif
 .PHONY: test tools-run tools-test steps lib slotline run fmt audit pictures judges second jobs cases host fuzz python install package bench bench-programs bench-table clean
 
 # What the steps stand on is proved first, then the steps go two at a time, the output of each in one piece. rt ci comes last: it proves every crate from
-# nothing, tries every must-fail edit, and prints the verdict. It starts four checks at a time, so that two cores stay busy while one waits for its fellows.
-export RT_JOBS = 4
+# nothing, tries every must-fail edit, and prints the verdict. It starts eight checks at a time and waits for all
+# of them, so that two cores stay busy while the last ones end.
+export RT_JOBS = 8
 test: | tools-test
 	rt check $(BELOW_C) slotline
 	$(MAKE) --no-print-directory -j2 --output-sync=target steps
