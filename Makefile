@@ -50,8 +50,8 @@ fmt:
 # Proves the C calls and what they stand on, and compiles them: an object for each channel's, in one archive, and the same objects in one shared library. One rt at a
 # time works in target/.
 ONE_RT = mkdir -p target && flock target/one-rt
-C_CALLS = slt_slot slt_antenna slt_frame slt_compressed slt_dpdch slt_dpcch slt_pich slt_wake slt_pccpch slt_hspdsch slt_lengths slt_sttd slt_aich slt_desk slt_combiner slt_sample
-BELOW_C = packed slot_read antenna_map antenna_read frame_map frame_read compressed_map compressed_read dpdch dpcch_read dpcch_frame_map dpcch_frame_read pich_map pich_read wake_run pccpch_read hspdsch_map hspdsch_read lengths sttd sttd_values aich desk combiner sample
+C_CALLS = slt_slot slt_antenna slt_frame slt_compressed slt_dpdch slt_dpcch slt_pich slt_wake slt_pccpch slt_hspdsch slt_lengths slt_sttd slt_aich slt_desk slt_combiner slt_sample slt_bank
+BELOW_C = packed slot_read antenna_map antenna_read frame_map frame_read compressed_map compressed_read dpdch dpcch_read dpcch_frame_map dpcch_frame_read pich_map pich_read wake_run pccpch_read hspdsch_map hspdsch_read lengths sttd sttd_values aich desk combiner sample bank_store bank_read bank_drop
 lib:
 	$(ONE_RT) rt check $(BELOW_C)
 	for name in $(C_CALLS); do $(ONE_RT) rt staticlib $$name || exit 1; done
@@ -113,7 +113,7 @@ cases: judges
 	$(SECOND)/cases | cmp - crates/cases/stdout
 
 # A C host under the sanitizers, with the archive and then with the shared library; what it prints is compared with what it should. What the shared library
-# exports and asks for is compared with the header. Then the program that docs/WAKE.md shows.
+# exports and asks for is compared with the header. Then the programs that docs/WAKE.md and docs/BANK.md show.
 host: lib
 	mkdir -p target/host
 	$(CC) $(CFLAGS) $(SANITIZE) -Iinclude examples/host.c $(LIB) -o target/host/host
@@ -124,6 +124,7 @@ host: lib
 	$(EMULATOR) target/host/shared > target/host/shared.stdout
 	cmp target/host/shared.stdout examples/host.stdout
 	CC="$(CC) $(CFLAGS) $(SANITIZE) -Iinclude" EMULATOR="$(EMULATOR)" sh examples/try_wake.sh $(LIB) target/host
+	CC="$(CC) $(CFLAGS) $(SANITIZE) -Iinclude" EMULATOR="$(EMULATOR)" sh examples/try_page.sh BANK 0 $(LIB) target/host
 
 # Cases drawn at random: the C calls under the sanitizers, in memory where a stray access shows, and the program on files.
 # How many there are is fixed, and SEED decides which: `make fuzz SEED=2` tries others, with CASE=N only that C call.

@@ -19,6 +19,7 @@ int main(int n_arguments, char **arguments) {
     bench_aich();
     bench_desk();
     bench_sample();
+    bench_bank();
     if (n_arguments == 4) bench_slotline(arguments[1], arguments[2], arguments[3]);
     return 0;
 }

@@ -17,6 +17,7 @@ void bench_sttd(void);
 void bench_aich(void);
 void bench_desk(void);
 void bench_sample(void);
+void bench_bank(void);
 
 /* The rows of the program, given the paths of slotline, of the tight and of the plain C program. */
 void bench_slotline(const char *slotline, const char *tight, const char *plain);

@@ -243,6 +243,30 @@ static void sample_each(struct test *t) {
     keep(t, slt_sample_each(whole(t, 0), whole(t, 1), level(t, 2), level(t, 3), t->given[4]));
 }
 
+static void bank_empty(struct test *t) {
+    t->got = slt_bank_empty(digits(t, 0), n(t, 0));
+}
+
+static void bank_store(struct test *t) {
+    t->got = slt_bank_store(digits(t, 0), n(t, 0), t->given[0], digits(t, 1), n(t, 1));
+}
+
+static void bank_fetch(struct test *t) {
+    t->got = slt_bank_fetch(digits(t, 0), n(t, 0), t->given[0], digits(t, 1), n(t, 1));
+}
+
+static void bank_drop(struct test *t) {
+    t->got = slt_bank_drop(digits(t, 0), n(t, 0), t->given[0]);
+}
+
+static void bank_length(struct test *t) {
+    t->got = slt_bank_length(digits(t, 0), n(t, 0), t->given[0]);
+}
+
+static void bank_room(struct test *t) {
+    t->got = slt_bank_room(digits(t, 0), n(t, 0));
+}
+
 const struct call calls[] = {
     {"slt_pich_q", 3, "", pich_q},
     {"slt_pich_map", 1, "11", pich_map},
@@ -290,6 +314,12 @@ const struct call calls[] = {
     {"slt_sample_off", 3, "", sample_off},
     {"slt_sample_shared", 4, "", sample_shared},
     {"slt_sample_each", 5, "", sample_each},
+    {"slt_bank_empty", 0, "1", bank_empty},
+    {"slt_bank_store", 1, "11", bank_store},
+    {"slt_bank_fetch", 1, "11", bank_fetch},
+    {"slt_bank_drop", 1, "1", bank_drop},
+    {"slt_bank_length", 1, "1", bank_length},
+    {"slt_bank_room", 0, "1", bank_room},
 };
 
 const size_t n_calls = sizeof calls / sizeof calls[0];

@@ -64,6 +64,12 @@ extern "C" {
 /* Of compressed frames. */
 #define SLT_REFUSED_GAP 27u /* a gap that leaves too few or too many slots of a compressed frame, or runs past slot 14 */
 
+/* Of a bank of slots. The place is 0. */
+#define SLT_REFUSED_BANK 28u    /* a buffer under 8 or over 65536 bytes, or bytes that are no bank */
+#define SLT_REFUSED_ABSENT 29u  /* no slot with the number in the bank */
+#define SLT_REFUSED_PRESENT 30u /* a slot with the number is already in the bank */
+#define SLT_REFUSED_ROOM 31u    /* no room: the total taken plus the new slot plus 4 exceeds the buffer */
+
 /* Of the wake simulation. */
 #define SLT_REFUSED_COUNT 32u /* frames read or frames that woke stand at 4294967295 */
 
@@ -239,6 +245,19 @@ typedef struct {
 slt_sample slt_sample_off(int64_t i, int64_t q, size_t antenna);
 slt_sample slt_sample_shared(int64_t i, int64_t q, float level, size_t antenna);
 slt_sample slt_sample_each(int64_t i, int64_t q, float first, float second, size_t antenna);
+
+/* A bank of stimulus slots in a buffer of 8 to 65536 bytes (docs/BANK.md): slots of 10 to 1280 digits under the numbers 0 to 255. The bank itself
+ * takes 8 bytes, and a slot 4 more than its digits. Nothing is kept outside the buffer, which may be moved and copied. */
+uint64_t slt_bank_empty(uint8_t *bank, size_t n_bank);
+uint64_t slt_bank_store(uint8_t *bank, size_t n_bank, size_t number, const uint8_t *slot, size_t n_slot);
+uint64_t slt_bank_fetch(const uint8_t *bank, size_t n_bank, size_t number, uint8_t *out, size_t n_out);
+uint64_t slt_bank_drop(uint8_t *bank, size_t n_bank, size_t number);
+
+/* The value is the number of digits that slt_bank_fetch needs room for. */
+uint64_t slt_bank_length(const uint8_t *bank, size_t n_bank, size_t number);
+
+/* The value is the number of bytes that are not taken. */
+uint64_t slt_bank_room(const uint8_t *bank, size_t n_bank);
 
 #ifdef __cplusplus
 }

@@ -527,3 +527,38 @@ pub fn sample_shared(i: i64, q: i64, level: f32, antenna: usize) -> SampleBits {
 pub fn sample_each(i: i64, q: i64, first: f32, second: f32, antenna: usize) -> SampleBits {
     in_bits(unsafe { slt_sample_each(i, q, first, second, antenna) })
 }
+
+// Bank of slots
+
+unsafe extern "C" {
+    fn slt_bank_empty(bank: *mut u8, n_bank: usize) -> u64;
+    fn slt_bank_store(bank: *mut u8, n_bank: usize, number: usize, slot: *const u8, n_slot: usize) -> u64;
+    fn slt_bank_fetch(bank: *const u8, n_bank: usize, number: usize, out: *mut u8, n_out: usize) -> u64;
+    fn slt_bank_drop(bank: *mut u8, n_bank: usize, number: usize) -> u64;
+    fn slt_bank_length(bank: *const u8, n_bank: usize, number: usize) -> u64;
+    fn slt_bank_room(bank: *const u8, n_bank: usize) -> u64;
+}
+
+pub fn bank_empty(bank: &mut Lent<u8>) -> Answer {
+    Answer::unpack(unsafe { slt_bank_empty(bank.pointer(), bank.len()) })
+}
+
+pub fn bank_store(bank: &mut Lent<u8>, number: usize, slot: &mut Lent<u8>) -> Answer {
+    Answer::unpack(unsafe { slt_bank_store(bank.pointer(), bank.len(), number, slot.pointer(), slot.len()) })
+}
+
+pub fn bank_fetch(bank: &mut Lent<u8>, number: usize, out: &mut Lent<u8>) -> Answer {
+    Answer::unpack(unsafe { slt_bank_fetch(bank.pointer(), bank.len(), number, out.pointer(), out.len()) })
+}
+
+pub fn bank_drop(bank: &mut Lent<u8>, number: usize) -> Answer {
+    Answer::unpack(unsafe { slt_bank_drop(bank.pointer(), bank.len(), number) })
+}
+
+pub fn bank_length(bank: &mut Lent<u8>, number: usize) -> Answer {
+    Answer::unpack(unsafe { slt_bank_length(bank.pointer(), bank.len(), number) })
+}
+
+pub fn bank_room(bank: &mut Lent<u8>) -> Answer {
+    Answer::unpack(unsafe { slt_bank_room(bank.pointer(), bank.len()) })
+}

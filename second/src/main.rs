@@ -43,6 +43,7 @@ const CHANNELS: &[Channel] = &[
     ("desk", compare::desk::all),
     ("combiner", compare::combiner::all),
     ("sample", compare::sample::all),
+    ("bank", compare::bank::all),
 ];
 
 fn main() {

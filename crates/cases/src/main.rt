@@ -6,6 +6,7 @@
 // numbers, `slip` a slip that has been seen, `done` any other call that is done.
 mod access;
 mod answer;
+mod banks;
 mod digits;
 mod hspdsch;
 mod jobs;
@@ -29,6 +30,9 @@ fn ask(call: usize, line: &[u8]) {
         question::DESK_TO_AICH => access::to_aich(line),
         question::DESK_TO_MESSAGE => access::to_message(line),
         question::WAKE_RUN..=question::WAKE_STEP => wakes::ask(call, line),
+        question::BANK_EMPTY..=question::BANK_FETCH => banks::lend(call, line),
+        question::BANK_LENGTH => banks::length(line),
+        question::BANK_ROOM => banks::room(line),
         _ => answer::text(b" -> no such call"),
     }
 }

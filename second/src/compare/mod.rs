@@ -5,6 +5,7 @@
 pub mod aich;
 pub mod aich_available;
 pub mod antenna;
+pub mod bank;
 pub mod combiner;
 pub mod compressed;
 pub mod desk;

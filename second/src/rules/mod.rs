@@ -6,6 +6,7 @@
 
 pub mod aich;
 pub mod antenna;
+pub mod bank;
 pub mod combiner;
 pub mod compressed;
 pub mod desk;

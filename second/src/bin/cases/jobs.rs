@@ -10,7 +10,7 @@ const EXAMPLE: [u8; 14] = *b"SLT\x00\x01\x01\x03\x01\x01\x01\x00\x01\x01\x00";
 const EXAMPLE_2: [u8; 15] = *b"SLT\x00\x02\x00\x01\x03\x01\x01\x01\x00\x01\x01\x00";
 
 /// A byte from 0 to 9 as that digit, any other as its letter.
-fn letters(file: &[u8]) -> String {
+pub fn letters(file: &[u8]) -> String {
     file.iter().map(|byte| if *byte < 10 { char::from(b'0' + byte) } else { char::from(*byte) }).collect()
 }
 

@@ -10,6 +10,7 @@
 #![deny(warnings)]
 #![deny(unsafe_code)]
 
+mod bank;
 mod calls;
 mod case;
 mod compressed;
@@ -30,7 +31,7 @@ use std::process::ExitCode;
 type Call = (&'static [u16], fn(&mut Draw) -> Case);
 
 /// In the order of `include/slt.h`, which is that of the table in `fuzz/calls.c`.
-const CALLS: [Call; 46] = [
+const CALLS: [Call; 52] = [
     (&[0, 8, 11], calls::pich_q),
     (&[0, 3, 4, 8], calls::pich_map),
     (&[0, 3, 4, 8, 9], calls::pich_read),
@@ -77,6 +78,12 @@ const CALLS: [Call; 46] = [
     (&[0, 11], calls::sample_off),
     (&[0, 11], calls::sample_shared),
     (&[0, 11], calls::sample_each),
+    (&[0, 28], bank::empty),
+    (&[0, 3, 4, 11, 28, 30, 31], bank::store),
+    (&[0, 3, 11, 28, 29], bank::fetch),
+    (&[0, 11, 28, 29], bank::drop),
+    (&[0, 11, 28, 29], bank::length),
+    (&[0, 28], bank::room),
 ];
 
 /// As many of each call.
