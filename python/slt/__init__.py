@@ -8,9 +8,10 @@ Digits are given as text ('0110-', DTX as -), as bytes, or as any sequence of sm
 Values are lists of numbers. A call that is refused raises Refused, with the number, the place and what the number means. docs/PYTHON.md has examples, docs/RULES.md
 the rules.
 """
-from . import aich, desk, dpch, hspdsch, job, lengths, pccpch, pich, sample, sttd, uplink, wake
+from . import aich, bank, desk, dpch, hspdsch, job, lengths, pccpch, pich, sample, sttd, uplink, wake
 from ._library import VERSION as __version__
 from .aich import *
+from .bank import *
 from .desk import *
 from .digits import Digits
 from .dpch import *
@@ -36,3 +37,4 @@ __all__ += lengths.__all__
 __all__ += aich.__all__
 __all__ += desk.__all__
 __all__ += sample.__all__
+__all__ += bank.__all__

@@ -15,7 +15,7 @@ class Number(NamedTuple):
 
 
 class Told(NamedTuple):
-    """A length that a call of the library tells: that call is given what it takes of the arguments here, and the run's number."""
+    """A length that a call of the library tells: that call is given what it takes of the arguments here, and the run's number if it asks for one."""
 
     call: str
     run: int
@@ -112,7 +112,7 @@ def store(name: str, written: bool = True) -> Run:
 FORMAT, KIND, FIRST, MISSING = size("format"), size("kind"), size("first"), size("missing")
 NP, PI, SLOT, TPC, ANTENNA = size("np"), size("pi"), size("slot"), size("tpc"), size("antenna")
 HEARD, AVAILABLE = Number("heard", "uint16_t"), Number("available", "uint16_t")
-I, Q, RUN = whole("i"), whole("q"), size("run")
+I, Q, RUN, NUMBER = whole("i"), whole("q"), size("run"), size("number")
 
 # Channels without formats have these lengths (docs/RULES.md). Those of all others the library tells.
 PICH_FRAME, PCCPCH_FRAME, PCCPCH_DATA = 300, 300, 270
@@ -185,4 +185,10 @@ CALLS: Dict[str, Row] = {
     "slt_sample_off": sampled(I, Q, ANTENNA),
     "slt_sample_shared": sampled(I, Q, level("level"), ANTENNA),
     "slt_sample_each": sampled(I, Q, level("first"), level("second"), ANTENNA),
+    "slt_bank_empty": row(store("bank")),
+    "slt_bank_store": row(store("bank"), NUMBER, given("slot")),
+    "slt_bank_fetch": row(store("bank", written=False), NUMBER, room("out", Told("slt_bank_length", 0))),
+    "slt_bank_drop": row(store("bank"), NUMBER),
+    "slt_bank_length": row(store("bank", written=False), NUMBER),
+    "slt_bank_room": row(store("bank", written=False)),
 }

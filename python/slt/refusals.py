@@ -25,6 +25,10 @@ SENTENCES: Dict[int, str] = {
     25: "bytes stand behind the last record",
     26: "an indicator other than 0 of a signature that is not available",
     27: "a gap leaves too few or too many slots of a compressed frame, or runs past slot 14",
+    28: "the buffer of a bank has fewer than 8 or more than 65536 bytes, or its bytes are no bank",
+    29: "a bank has no slot with the number",
+    30: "a bank already has a slot with the number",
+    31: "a bank has no room",
     32: "a count of frames stands at 4294967295",
 }
 

@@ -52,6 +52,12 @@ NAMED: Dict[str, Tuple[str, Dict[str, str]]] = {
     "desk serve": ("desk_serve", {}),
     "desk to AICH": ("desk_to_aich", {}),
     "desk to message": ("desk_to_message", {}),
+    "bank empty": ("bank_empty", {}),
+    "bank store": ("bank_store", {}),
+    "bank fetch": ("bank_fetch", {}),
+    "bank drop": ("bank_drop", {}),
+    "bank length": ("bank_length", {}),
+    "bank room": ("bank_room", {}),
     "AICH combine": ("aich_combine", {}),
     "sample": ("sample", {}),
 }
@@ -101,7 +107,14 @@ def value(row: Row, name: str, text: str) -> Any:
     argument = {argument.name: argument for argument in row.arguments}.get(name, Number(name, "size_t"))
     if isinstance(argument, Number) or argument.fixed == 1:
         return int(text)
+    if argument.raw:
+        return list(letters(text))
     return digits(text) if argument.kind == "uint8_t" else [int(part) for part in text.split(",") if part]
+
+
+def letters(text: str) -> bytes:
+    """Bytes of a file or of a bank: one from 0 to 9 is that digit, any other its letter."""
+    return bytes(int(letter) if letter.isdigit() else ord(letter) for letter in text)
 
 
 def digits(text: str) -> List[int]:
@@ -160,7 +173,7 @@ def job_cases() -> List[Tuple[bytes, str]]:
     """The job files of the cases, and what is printed for each."""
     text = (ROOT / "crates/cases/stdout").read_text(encoding="ascii")
     found = re.findall(r"^[\w ]+: job file=(\S*)\n((?:(?:SLT|AICH|PICH|DPCH|refused) .*\n)+)", text, re.M)
-    return [(bytes(int(letter) if letter.isdigit() else ord(letter) for letter in file), printed) for file, printed in found]
+    return [(letters(file), printed) for file, printed in found]
 
 
 def arguments(case: Case) -> Dict[str, Any]:

@@ -39,8 +39,8 @@ def kind(function: str, name: str) -> str:
     """What a function takes by a name: the C type of the number, or of the run's elements with a star."""
     if function == "aich_combine" and name in ("h1", "h2"):
         return "gain"
-    if name == "tally":
-        return "tally"
+    if name in ("tally", "bank"):
+        return name
     argument = {argument.name: argument for argument in CALLS["slt_" + function].arguments}[name]
     return argument.kind if isinstance(argument, Number) or argument.fixed == 1 else argument.kind + "*"
 
@@ -56,6 +56,7 @@ WRONG_TYPE: Dict[str, List[Any]] = {
     "float": [None, "1", b"1", [1.0], {}, object(), 1j, float],
     "gain": [None, 1.0, "1", {}, object(), [1.0, 0], ["1", "2"]],
     "tally": NO_RUN + ["000", [0, 0, None], (0, 0.0, 0)],
+    "bank": NO_RUN + ["SLTB", "01", ""],
     "uint8_t*": NO_RUN + [memoryview(b"01").cast("c")],
     "int32_t*": NO_RUN + ["0101", "", memoryview(b"01").cast("c")],
 }
@@ -68,6 +69,7 @@ WRONG_VALUE: Dict[str, List[Any]] = {
     "float": [1 << 2000],
     "gain": [1 << 63, (0, 1 << 63), (1,), (1, 2, 3), 0.5 + 0j, complex(0, float("inf")), complex(float("nan"), 0), 1e30j],
     "tally": [(), (0, 0), [0] * 4, (0, 0, 1 << 32), (-1, 0, 0)],
+    "bank": [[256], [-1], [1 << 70], array.array("h", [300])],
     "uint8_t*": [[256], [-1], [1 << 70], "012", "01 ", "0\n", "O", "0１", array.array("h", [300])],
     "int32_t*": [[1 << 31], [-(1 << 31) - 1], [1 << 64]],
 }

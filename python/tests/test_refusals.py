@@ -11,6 +11,8 @@ from slt.refusals import SENTENCES
 
 ZEROS = [0] * 32
 
+BANK = slt.bank_store(slt.bank_empty(bytes(35)), 7, "1101101100")
+
 # Each number with its place, and a call that is refused with it.
 EVERY: Dict[int, Tuple[int, Callable[[], object]]] = {
     1: (0, lambda: slt.slot_map(17, 0, tpc=0, data="1010")),
@@ -33,6 +35,10 @@ EVERY: Dict[int, Tuple[int, Callable[[], object]]] = {
     25: (6, lambda: job.Job.read(b"SLT\x00\x01\x00\x00")),
     26: (1, lambda: slt.aich_map_available({0, 2}, [0, 1] + [0] * 14)),
     27: (0, lambda: slt.compressed_map(0, 2, 13, 3, commands="0" * 12, data="0" * 96)),
+    28: (0, lambda: slt.bank_room(bytes(100))),
+    29: (0, lambda: slt.bank_fetch(BANK, 8)),
+    30: (0, lambda: slt.bank_store(BANK, 7, "01" * 5)),
+    31: (0, lambda: slt.bank_store(BANK, 8, "01" * 5)),
     32: (0, lambda: slt.wake_run((0xFFFFFFFF, 0, 0), 18, 5, "0" * 288 + "-" * 12)),
 }
 
@@ -66,6 +72,11 @@ class Refusals(unittest.TestCase):
         with self.assertRaises(slt.WakeRefused) as raised:
             slt.wake_run((1, 1, 7), 18, 5, good[:-1])
         self.assertEqual((raised.exception.tally, raised.exception.detail), ((1, 1, 7), "frames has 299 elements"))
+
+    def test_a_length_in_a_bank(self) -> None:
+        with self.assertRaises(slt.Refused) as raised:
+            slt.bank_store(BANK, 8, "01")
+        self.assertEqual((raised.exception.number, raised.exception.place, raised.exception.detail), (3, 0, "slot has 2 elements"))
 
     def test_it_is_a_value_error(self) -> None:
         self.assertTrue(issubclass(slt.Refused, ValueError))

@@ -26,6 +26,8 @@ streams: slt.Antennas = slt.hspdsch_map(0, b"\0" * slt.hspdsch_lengths(0, 0))
 tally: slt.Tally = slt.wake_run(slt.Tally(next_sfn=4095), 18, 5, slot)
 tally = slt.wake_step((0, 0, 0), 18, 5, slot)
 last: int = slt.desk_serve(slt.DESK_FRESH, {1, 2}, 0xFFFF, 4).last
+bank: bytes = slt.bank_store(slt.bank_empty(bytes(100)), 7, slot)
+back: slt.Digits = slt.bank_fetch(bytearray(bank), 7)
 job: Job = Job([Aich(values[:16]), Pich(18, "0" * 18), Dpch(1, 1, tpc=1, data="10", tfci="01")])
 lines: List[str] = slt.job.lines(bytes(job))
 try:
@@ -39,6 +41,7 @@ slt.slot_map("9", 3, tpc=1, data="01")  # type: ignore[arg-type]
 slt.slot_map(9, 3, data="01")  # type: ignore[call-arg]
 slt.aich_map("0" * 16)  # type: ignore[arg-type]
 slt.wake_run(7, 18, 5, slot)  # type: ignore[arg-type]
+slt.bank_room("SLTB")  # type: ignore[arg-type]
 slt.desk_serve(slt.DESK_FRESH, "01", 0, 4)  # type: ignore[arg-type]
 slt.pich_q(18, 5)  # type: ignore[call-arg]
 number: int = slt.pich_map(18, "0" * 18)  # type: ignore[assignment]
