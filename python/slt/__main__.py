@@ -4,6 +4,7 @@ from __future__ import annotations
 import argparse
 import inspect
 import sys
+import textwrap
 from typing import Any, Callable, Dict, List, Sequence
 
 import slt
@@ -11,6 +12,9 @@ from slt import job
 from slt._rows import CALLS, Number, Run
 
 DONE, REFUSED, BAD_USAGE = 0, 1, 2
+
+ABOUT = """The slot mapper for 3GPP TS 25.211: puts the fields of a channel into the digits that are sent, reads
+them back, and looks at job files."""
 
 EPILOG = """examples:
   %(prog)s map slot format=1 slot=1 tpc=1 data=10 tfci=01
@@ -23,6 +27,36 @@ EPILOG = """examples:
 
 Digits are written as 0, 1, and - for DTX; values as numbers with commas between them.
 Status: 0 done, 1 refused, 2 bad usage, or no such file, or no library."""
+
+
+# What the arguments of the commands are, for their help: numbers, and runs of digits or values.
+NUMBERS = {
+    "format": "the slot format, counted from 0; docs/RULES.md has the tables",
+    "slot": "the slot's number in its frame, 0 to 14",
+    "tpc": "the power control command, 0 or 1",
+    "antenna": "0 for antenna 1, 1 for antenna 2",
+    "kind": "1 for a format A, 2 for a format B",
+    "first": "the first slot that is missing",
+    "missing": "how many slots are missing",
+    "np": "how many paging indicators a frame has: 18, 36, 72 or 144",
+    "pi": "the handset's PI, 0 to np - 1",
+    "sfn": "the number of the frame, 0 to 4095",
+    "available": "the signatures that the cell offers: signature s is bit s, and 0xffff is all",
+}
+RUNS = {
+    "data": "the data digits, those of Data1 before those of Data2",
+    "tfci": "the TFCI digits; some formats have none",
+    "fbi": "the FBI digits; some formats have none",
+    "commands": "a power control command, 0 or 1, for each slot",
+    "run": "the digits of the slot",
+    "frame": "the digits of the frame",
+    "first": "the digits that antenna 1 sent",
+    "second": "the digits that antenna 2 sent",
+    "antenna1": "the digits that antenna 1 sent",
+    "antenna2": "the digits that antenna 2 sent",
+    "indicators": "the indicators: of the PICH each 0 or 1, of the AICH each -1, 0 or 1",
+    "values": "the 32 AICH values",
+}
 
 
 class Wrong(Exception):
@@ -132,10 +166,14 @@ def add_call(commands: Any, word: str, name: str) -> None:
     """A command that makes a call, with the call's own words as its help."""
     text = (inspect.getdoc(getattr(slt, name)) or "").replace("%", "%%")
     least = needed(name)
-    forms = [f"{argument.name}={form(argument)}" for argument in arguments(name)]
+    forms = {f"{argument.name}={form(argument)}": (RUNS if isinstance(argument, Run) else NUMBERS)[argument.name] for argument in arguments(name)}
     usage = " ".join(each if each.partition("=")[0] in least else f"[{each}]" for each in forms)
-    command = commands.add_parser(word, help=text, description=text, usage=f"%(prog)s {usage}")
-    command.add_argument("words", nargs="*", metavar="NAME=VALUE", help="the arguments, in any order")
+    widest = max(map(len, forms))
+    meanings = "\n".join(["arguments:", *(f"  {each:{widest}}  {meaning}" for each, meaning in forms.items())])
+    command = commands.add_parser(
+        word, help=text, description=textwrap.fill(text), epilog=meanings, usage=f"%(prog)s {usage}", formatter_class=argparse.RawDescriptionHelpFormatter
+    )
+    command.add_argument("words", nargs="*", metavar="NAME=VALUE", help="the arguments below, in any order")
     command.set_defaults(run=lambda chosen: make(name, chosen.words))
 
 
@@ -147,7 +185,7 @@ def add_file(commands: Any, word: str, help: str, run: Callable[[str], int]) -> 
 
 def parser() -> argparse.ArgumentParser:
     found = argparse.ArgumentParser(
-        prog="python -m slt", description="The slot mapper for 3GPP TS 25.211.", epilog=EPILOG, formatter_class=argparse.RawDescriptionHelpFormatter
+        prog="python -m slt", description=ABOUT, epilog=EPILOG, formatter_class=argparse.RawDescriptionHelpFormatter
     )
     found.add_argument("--version", action="version", version=f"slt {slt.__version__}")
     commands = found.add_subparsers(metavar="COMMAND", required=True)

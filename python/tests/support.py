@@ -60,6 +60,14 @@ NAMED: Dict[str, Tuple[str, Dict[str, str]]] = {
     "bank room": ("bank_room", {}),
     "AICH combine": ("aich_combine", {}),
     "sample": ("sample", {}),
+    "slot lengths": ("slot_lengths", {}),
+    "frame lengths": ("frame_lengths", {}),
+    "compressed lengths": ("compressed_lengths", {}),
+    "DPDCH lengths": ("dpdch_lengths", {}),
+    "DPDCH frame lengths": ("dpdch_frame_lengths", {}),
+    "DPCCH lengths": ("dpcch_lengths", {}),
+    "DPCCH frame lengths": ("dpcch_frame_lengths", {}),
+    "HS-PDSCH lengths": ("hspdsch_lengths", {}),
 }
 
 # The calls that tell lengths have no cases: docs/RULES.md has what they tell (test_lengths).

@@ -86,6 +86,15 @@ class Calls(unittest.TestCase):
         self.assertIn("format=NUMBER slot=NUMBER tpc=NUMBER data=DIGITS [tfci=DIGITS]", " ".join(run("map", "slot", "--help")[1].split()))
         self.assertEqual(run("--version")[1], f"slt {slt.__version__}\n")
 
+    def test_help_of_each(self) -> None:
+        """Every channel says what each of its arguments is."""
+        for word in ("map", "read"):
+            for channel, name in command.calls(word).items():
+                status, out, _ = run(word, channel, "--help")
+                self.assertEqual(status, 0)
+                for argument in command.arguments(name):
+                    self.assertRegex(out, rf"\n  {argument.name}={re.escape(command.form(argument))} +\w")
+
 
 class Jobs(unittest.TestCase):
     def test_check(self) -> None:
