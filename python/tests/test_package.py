@@ -54,6 +54,13 @@ class Complete(unittest.TestCase):
         for path in [*support.PACKAGE.glob("*.py"), *(support.ROOT / "python/backend").glob("*.py")]:
             ast.parse(path.read_text(encoding="utf-8"), path.name, feature_version=(3, 9))
 
+    def test_no_table_of_formats(self) -> None:
+        """The library tells lengths: of whole numbers above 31 the package has those of channels without formats, of job files, and of C's types, and no others."""
+        known = {270, 300, 32, 65535, 1048576, 100, 0xFFFF, 0xFFFFFFFF, 48, 256}
+        for path in support.PACKAGE.glob("*.py"):
+            numbers = {node.value for node in ast.walk(ast.parse(path.read_text(encoding="utf-8"))) if isinstance(node, ast.Constant) and type(node.value) is int}
+            self.assertEqual({number for number in numbers if number > 31} - known, set(), path.name)
+
     def test_typed(self) -> None:
         """Type checkers look at a package's annotations where this file says so."""
         self.assertTrue((support.PACKAGE / "py.typed").exists())
