@@ -12,6 +12,7 @@ mod hspdsch;
 mod jobs;
 mod question;
 mod samples;
+mod told;
 mod uplink;
 mod values;
 mod wakes;
@@ -33,6 +34,8 @@ fn ask(call: usize, line: &[u8]) {
         question::BANK_EMPTY..=question::BANK_FETCH => banks::lend(call, line),
         question::BANK_LENGTH => banks::length(line),
         question::BANK_ROOM => banks::room(line),
+        question::SLOT_LENGTHS..=question::HSPDSCH_LENGTHS => told::of(call, line),
+        question::COMPRESSED_LENGTHS => told::of_compressed(line),
         _ => answer::text(b" -> no such call"),
     }
 }

@@ -97,7 +97,23 @@ pub(crate) const BANK_LENGTH: usize = 41;
 
 pub(crate) const BANK_ROOM: usize = 42;
 
-pub(crate) const NONE: usize = 43;
+pub(crate) const SLOT_LENGTHS: usize = 43;
+
+pub(crate) const FRAME_LENGTHS: usize = 44;
+
+pub(crate) const DPDCH_LENGTHS: usize = 45;
+
+pub(crate) const DPDCH_FRAME_LENGTHS: usize = 46;
+
+pub(crate) const DPCCH_LENGTHS: usize = 47;
+
+pub(crate) const DPCCH_FRAME_LENGTHS: usize = 48;
+
+pub(crate) const HSPDSCH_LENGTHS: usize = 49;
+
+pub(crate) const COMPRESSED_LENGTHS: usize = 50;
+
+pub(crate) const NONE: usize = 51;
 
 // How many digits and how many whole numbers a run has at most.
 pub(crate) const DIGITS: usize = 300;
@@ -156,7 +172,7 @@ pub(crate) fn call(line: &[u8]) -> usize {
     let mut k = 0;
     while k < NONE {
         let name = piece(
-            b" slot map , antenna map , frame map , P-CCPCH read , PICH map , PICH read , DPDCH map , DPDCH read , DPDCH frame map , DPDCH frame read , DPCCH map , DPCCH frame map , compressed map , STTD digits , slot read , antennas read , P-CCPCH map , DPCCH read , frame read , DPCCH frame read , compressed read , PICH q , AICH map , AICH read , AICH available map , AICH available read , STTD values , AICH combine , sample , job , HS-PDSCH map , HS-PDSCH read , desk serve , desk to AICH , desk to message , wake run , wake step , bank empty , bank store , bank drop , bank fetch , bank length , bank room ",
+            b" slot map , antenna map , frame map , P-CCPCH read , PICH map , PICH read , DPDCH map , DPDCH read , DPDCH frame map , DPDCH frame read , DPCCH map , DPCCH frame map , compressed map , STTD digits , slot read , antennas read , P-CCPCH map , DPCCH read , frame read , DPCCH frame read , compressed read , PICH q , AICH map , AICH read , AICH available map , AICH available read , STTD values , AICH combine , sample , job , HS-PDSCH map , HS-PDSCH read , desk serve , desk to AICH , desk to message , wake run , wake step , bank empty , bank store , bank drop , bank fetch , bank length , bank room , slot lengths , frame lengths , DPDCH lengths , DPDCH frame lengths , DPCCH lengths , DPCCH frame lengths , HS-PDSCH lengths , compressed lengths ",
             b',',
             k,
         );

@@ -17,6 +17,7 @@ mod desk;
 mod frames;
 mod hspdsch;
 mod jobs;
+mod lengths;
 mod paging;
 mod runs;
 mod samples;
@@ -31,7 +32,7 @@ fn main() {
         Some(other) => panic!("{other} is not --questions"),
     };
     let dedicated = [slots::all(), frames::all(), compressed::all(), uplink::all()];
-    let others = [antennas::all(), paging::all(), access::all(), desk::all(), samples::all(), wake::all(), jobs::all(), hspdsch::all(), bank::all()];
+    let others = [antennas::all(), paging::all(), access::all(), desk::all(), samples::all(), wake::all(), jobs::all(), hspdsch::all(), bank::all(), lengths::all()];
     for case in [dedicated.concat(), others.concat()].concat() {
         if questions_only {
             println!("{}", case.question);
