@@ -70,9 +70,8 @@ NAMED: Dict[str, Tuple[str, Dict[str, str]]] = {
     "HS-PDSCH lengths": ("hspdsch_lengths", {}),
 }
 
-# The calls that tell lengths have no cases: docs/RULES.md has what they tell (test_lengths).
+# The calls that tell lengths.
 LENGTHS = sorted(name[len("slt_") :] for name in CALLS if name.endswith("_lengths"))
-GAP = {"kind": 1, "first": 4, "missing": 3}
 
 
 TALLY = ("read", "woke", "next_sfn")
@@ -193,8 +192,8 @@ def arguments(case: Case) -> Dict[str, Any]:
 
 
 def good() -> Dict[str, Dict[str, Any]]:
-    """Good arguments for each function: those of its first case that is done; of one that tells lengths the first format and run."""
-    found: Dict[str, Dict[str, Any]] = {name: {"format": 0, **(GAP if name.startswith("compressed") else {}), "run": 0} for name in LENGTHS}
+    """Good arguments for each function: those of its first case that is done."""
+    found: Dict[str, Dict[str, Any]] = {}
     for case in cases():
         if case.number == 0:
             found.setdefault(case.function, arguments(case))
