@@ -1,13 +1,18 @@
-# Targets: run (the program on an example job), test (the gate), lib (the proved archive for C), slotline (the program), sim (the judge of mutants in a simulator), install,
-# bench, pictures; and the steps of test: fmt, audit, second, jobs, cases, host, fuzz, package, sim-gate. tools-run, tools-sim and tools-test look for what run, sim and test need.
+# Targets: run (the program on an example job), test (the gate), lib (the proved archive for C, and the same as a shared library), slotline (the program), sim (the judge of mutants in a
+# simulator), install, bench, pictures; and the steps of test: fmt, audit, second, jobs, cases, host, fuzz, package, python, sim-gate. tools-run, tools-sim and tools-test look for what run,
+# sim and test need.
 CFLAGS = -std=c11 -O2 -g -Wall -Wextra -Werror
 SANITIZE = -fsanitize=address,undefined -fno-sanitize-recover=all
 LIB = target/staticlib/libslt.a
+SHARED = target/staticlib/libslt.so
 SLOTLINE = target/bin/slotline
 SECOND = target/second/release
 # How the program is started, and what compiles and runs the comparison, which links the archive.
 PROGRAM = $(SLOTLINE)
 COMPARE = cargo run
+# What looks into the shared library.
+NM = nm
+READELF = readelf
 
 # The prover compiles for x86-64. On another processor the C and the comparison are compiled for x86-64 as well, and all of it runs under an emulator, where the
 # address sanitizer does not find the addresses that it takes.
@@ -15,6 +20,8 @@ ifneq ($(shell uname -m),x86_64)
 CC = x86_64-linux-gnu-gcc
 CXX = x86_64-linux-gnu-g++
 AR = x86_64-linux-gnu-ar
+NM = x86_64-linux-gnu-nm
+READELF = x86_64-linux-gnu-readelf
 EMULATOR = qemu-x86_64-static
 SANITIZE = -fsanitize=undefined -fno-sanitize-recover=all -static-libubsan
 PROGRAM = target/emulated/slotline
@@ -22,7 +29,7 @@ COMPARE = RUSTC=/usr/bin/rustc CARGO_TARGET_X86_64_UNKNOWN_LINUX_GNU_LINKER=$(CC
     /usr/bin/cargo run --target x86_64-unknown-linux-gnu
 endif
 
-.PHONY: test tools-run tools-sim tools-test steps sim sim-gate lib slotline run fmt audit pictures judges second jobs cases host fuzz install package bench bench-programs bench-table clean
+.PHONY: test tools-run tools-sim tools-test steps sim sim-gate lib slotline run fmt audit pictures judges second jobs cases host fuzz python install package bench bench-programs bench-table clean
 
 # What the steps stand on is proved first, then the steps go two at a time, the output of each in one piece. rt ci comes last: it proves every crate from
 # nothing, tries every must-fail edit, and prints the verdict. It starts eight checks at a time and waits for all
@@ -33,7 +40,7 @@ test: | tools-test
 	$(MAKE) --no-print-directory -j2 --output-sync=target steps
 	rt ci
 
-steps: fmt audit second jobs cases host fuzz package sim-gate
+steps: fmt audit second jobs cases host fuzz package python sim-gate
 
 # The tools, one list for all commands. What is missing is installed where it may be, else the command that does it is printed.
 tools-run tools-sim tools-test:
@@ -42,15 +49,23 @@ tools-run tools-sim tools-test:
 fmt:
 	rt fmt --check
 
-# Proves the C calls and what they stand on, and compiles them: an object for each channel's, in one archive. One rt at a time works in target/.
+# Proves the C calls and what they stand on, and compiles them: an object for each channel's, in one archive, and the same objects in one shared library. One rt at a
+# time works in target/.
 ONE_RT = mkdir -p target && flock target/one-rt
 C_CALLS = slt_slot slt_antenna slt_frame slt_compressed slt_dpdch slt_dpcch slt_pich slt_wake slt_pccpch slt_hspdsch slt_lengths slt_sttd slt_aich slt_desk slt_combiner slt_sample slt_bank
 BELOW_C = packed slot_read antenna_map antenna_read frame_map frame_read compressed_map compressed_read dpdch dpcch_read dpcch_frame_map dpcch_frame_read pich_map pich_read wake_run pccpch_read hspdsch_map hspdsch_read lengths sttd sttd_values aich desk combiner sample bank_store bank_read bank_drop
 lib:
 	$(ONE_RT) rt check $(BELOW_C)
 	for name in $(C_CALLS); do $(ONE_RT) rt staticlib $$name || exit 1; done
-	rm -f $(LIB)
+	rm -f $(LIB) $(SHARED)*
 	cd $(dir $(LIB)) && for name in $(C_CALLS); do $(AR) x lib$$name.a || exit 1; done && $(AR) crs $(notdir $(LIB)) $(addsuffix .o,$(C_CALLS))
+	$(CC) -shared -nostartfiles $(SHARED_FLAGS) $(patsubst %,$(dir $(LIB))%.o,$(C_CALLS)) -o $(SHARED).$(VERSION)
+	cd $(dir $(SHARED)) && ln -sf libslt.so.$(VERSION) libslt.so.$(MAJOR) && ln -sf libslt.so.$(MAJOR) libslt.so
+
+# The shared library exports what the version script says. It is linked only if its code needs no change where it is loaded, and if the C library alone has what it
+# calls; with nothing to do at its start or end it has no start files.
+MAJOR = $(firstword $(subst ., ,$(VERSION)))
+SHARED_FLAGS = -Wl,-soname,libslt.so.$(MAJOR) -Wl,--version-script=packaging/libslt.map -Wl,-z,text,-z,defs,-z,relro,-z,now
 
 # Proves the program that reads a job file and what it stands on, and compiles it.
 slotline: | tools-run
@@ -99,12 +114,17 @@ cases: judges
 	$(SECOND)/cases --questions | cmp - crates/cases/stdin
 	$(SECOND)/cases | cmp - crates/cases/stdout
 
-# A C host under the sanitizers; what it prints is compared with what it should. Then the programs that docs/WAKE.md and docs/BANK.md show.
+# A C host under the sanitizers, with the archive and then with the shared library; what it prints is compared with what it should. What the shared library
+# exports and asks for is compared with the header. Then the programs that docs/WAKE.md and docs/BANK.md show.
 host: lib
 	mkdir -p target/host
 	$(CC) $(CFLAGS) $(SANITIZE) -Iinclude examples/host.c $(LIB) -o target/host/host
 	$(EMULATOR) target/host/host > target/host/stdout
 	cmp target/host/stdout examples/host.stdout
+	NM=$(NM) READELF=$(READELF) sh packaging/try_shared.sh $(SHARED) include/slt.h libslt.so.$(MAJOR) target/host
+	$(CC) $(CFLAGS) $(SANITIZE) -Iinclude examples/host.c $(SHARED) -Wl,-rpath,$(abspath $(dir $(SHARED))) -o target/host/shared
+	$(EMULATOR) target/host/shared > target/host/shared.stdout
+	cmp target/host/shared.stdout examples/host.stdout
 	CC="$(CC) $(CFLAGS) $(SANITIZE) -Iinclude" EMULATOR="$(EMULATOR)" sh examples/try_wake.sh $(LIB) target/host
 	CC="$(CC) $(CFLAGS) $(SANITIZE) -Iinclude" EMULATOR="$(EMULATOR)" sh examples/try_page.sh BANK 0 $(LIB) target/host
 
@@ -118,6 +138,17 @@ fuzz: lib judges slotline
 	$(SECOND)/fuzz $(SEED) $(CASE) | $(EMULATOR) target/fuzz/fuzz
 	test -n "$(CASE)" || $(SECOND)/jobs --fuzz $(SEED) $(PROGRAM)
 
+# The Python package: its types, where a checker of them is there, and its tests, which load the shared library and run the program; SEED decides their random arguments,
+# too. A Python of another processor cannot load a library for x86-64: there only the types are looked at.
+MYPY = mypy
+python: lib slotline
+	if command -v $(MYPY) > /dev/null; then cd python && $(MYPY) slt backend tests/typed.py; else echo "python: there is no $(MYPY) here, and types are not looked at"; fi
+ifdef EMULATOR
+	@echo "python: this machine's Python cannot load a library for x86-64: the tests of the package are left out"
+else
+	cd python && SEED=$(SEED) SLT_LIBRARY=$(abspath $(SHARED)) SLOTLINE=$(abspath $(PROGRAM)) python3 -B -m unittest discover -s tests -t .
+endif
+
 # The judge at work in a simulator (docs/SIMULATOR.md): the mutants of four circuits. sim-gate has fewer of them, and compares their classes with those in sim/expected; it is
 # a step of test, which has looked for the tools.
 SIM = CC="$(CC)" CXX="$(CXX)" EMULATOR="$(EMULATOR)" SLT_LIB=$(abspath $(LIB)) python3 -B sim/all.py
@@ -129,12 +160,16 @@ sim-gate: lib
 	python3 -B sim/test_judge.py --quiet
 	SIM_QUIET=1 $(SIM) --gate
 
-# The archive, its header and its pkg-config file, what a SystemVerilog bench needs, the program and its man page. PREFIX is where they will be used, and
-# DESTDIR stands before it where they are only put together.
+# The archive, the shared library with its links, the header and its pkg-config file, what a SystemVerilog bench needs, the program and its man page, and the Python package with a link to
+# the library beside it. PREFIX is where they will be used, and DESTDIR stands before it where they are only put together. PYTHON_DIR is where Python looks for packages below PREFIX.
 PREFIX = /usr/local
 VERSION = 1.0
+PYTHON_DIR = $(or $(shell python3 -B packaging/python_dir.py "$(PREFIX)"),$(PREFIX)/lib/python3/site-packages)
 install: lib slotline
 	install -D -m 644 $(LIB) "$(DESTDIR)$(PREFIX)/lib/libslt.a"
+	install -D -m 755 $(SHARED).$(VERSION) "$(DESTDIR)$(PREFIX)/lib/libslt.so.$(VERSION)"
+	ln -sf libslt.so.$(VERSION) "$(DESTDIR)$(PREFIX)/lib/libslt.so.$(MAJOR)"
+	ln -sf libslt.so.$(MAJOR) "$(DESTDIR)$(PREFIX)/lib/libslt.so"
 	install -D -m 644 include/slt.h "$(DESTDIR)$(PREFIX)/include/slt.h"
 	install -D -m 755 $(SLOTLINE) "$(DESTDIR)$(PREFIX)/bin/slotline"
 	install -D -m 644 sim/slt_pkg.sv "$(DESTDIR)$(PREFIX)/share/slt/slt_pkg.sv"
@@ -142,14 +177,18 @@ install: lib slotline
 	install -D -m 644 packaging/slotline.1 "$(DESTDIR)$(PREFIX)/share/man/man1/slotline.1"
 	sed 's|@PREFIX@|$(PREFIX)|; s|@VERSION@|$(VERSION)|' packaging/slt.pc.in > target/slt.pc
 	install -D -m 644 target/slt.pc "$(DESTDIR)$(PREFIX)/lib/pkgconfig/slt.pc"
+	install -d "$(DESTDIR)$(PYTHON_DIR)/slt"
+	install -m 644 python/slt/*.py python/slt/py.typed "$(DESTDIR)$(PYTHON_DIR)/slt"
+	ln -sfr "$(DESTDIR)$(PREFIX)/lib/libslt.so.$(MAJOR)" "$(DESTDIR)$(PYTHON_DIR)/slt/libslt.so.$(MAJOR)"
 
-# An installation as another project meets it: its man page, its program, and a C program and a SystemVerilog bench that are told by pkg-config alone
-# where everything is.
+# An installation as another project meets it: its man page, its program, a C program and a SystemVerilog bench that are told by pkg-config alone where everything is,
+# and the Python package, installed and as pip installs it.
 INSTALLED = $(abspath target/install)
+INSTALLED_PYTHON = $(shell python3 -B packaging/python_dir.py $(INSTALLED))
 package: lib slotline
 	rm -rf target/install target/outside
 	$(MAKE) --no-print-directory -o lib -o slotline install DESTDIR= PREFIX=$(INSTALLED)
-	CC="$(CC)" CXX="$(CXX)" EMULATOR="$(EMULATOR)" sh packaging/try.sh $(INSTALLED) target/outside
+	CC="$(CC)" CXX="$(CXX)" EMULATOR="$(EMULATOR)" sh packaging/try.sh $(INSTALLED) target/outside $(INSTALLED_PYTHON)
 
 # Ratios to plain C, to tight C and to memcpy, in one run. It fails where the library and the C beside it answer or write anything that is not the
 # same; nothing fails by its numbers. The program slotline is timed against programs of its own.

@@ -11,12 +11,13 @@ sys.dont_write_bytecode = True
 import cites
 import header
 import names
+import package
 import pages
 import pictures
 import promises
 import refusals
 
-CHECKS = (pages, header, cites, refusals, promises, pictures)
+CHECKS = (pages, header, package, cites, refusals, promises, pictures)
 
 
 def faults(root):

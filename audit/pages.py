@@ -9,16 +9,18 @@ import posixpath
 import re
 
 import header
+import package
 
 MAN = "packaging/slotline.1"
 # What a page may write as code though the tree declares nothing of that name.
 WORDS = {
     "the languages' own words": "requires, ensures, .ensures, match, rw, pub fn, extern \"C\", i32, i64, u16, u32, usize",
     "types and functions of C": "size_t, uint16_t, uint64_t, memcpy, memset",
+    "Python's own words and tools": "ctypes, mypy, pip, unittest, nm -D",
     "functions of the provers' libraries": "min, replicate",
     "the kit's own programs": "rt, rattle, antt",
     "variables of a formula on the page": "alone, base",
-    "digits, and bytes of a file that is refused": "+, -, SLX, SL",
+    "digits, and bytes of a file that is refused": "0, 1, +, -, SLX, SL",
     "what a page writes where any name may stand": "NAME, file",
 }
 KNOWN = {word for words in WORDS.values() for word in words.split(", ")}
@@ -36,7 +38,7 @@ RT = {"check", "ci", "dev", "fmt", "must-fail", "prove", "staticlib", "try"}
 # A line that slotline prints: its first word, and words in capitals for what changes. A refusal that is printed has a number that there is.
 PRINTED = re.compile(r"(SLT|AICH|PICH|DPCH|refused)( 1)?( [A-Z]+)*")
 REFUSED = re.compile(r"refused (\d+) (\d+)")
-PATH = re.compile(r"[\w.*-]*(/[\w.*-]*)+|[\w*-]*\.(md|antt|rt|rs|c|h|py|sh|txt|slt|svg|a|1|edit)")
+PATH = re.compile(r"[\w.*-]*(/[\w.*-]*)+|[\w*-]*\.(md|antt|rt|rs|c|h|py|sh|txt|slt|svg|toml|map|typed|a|so(\.\d+)?|1|edit)")
 
 
 def blank(match):
@@ -45,7 +47,7 @@ def blank(match):
 
 
 def pages(tree):
-    return ["README.md", "CONTRIBUTING.md", *tree.under("docs/*.md")]
+    return ["README.md", "CONTRIBUTING.md", "python/README.md", *tree.under("docs/*.md")]
 
 
 def without_free(text):
@@ -89,8 +91,8 @@ def is_path(tree, word):
     """A path from the root, from a crate's folder, or a file's bare name; what make puts in target/ if the Makefile says so."""
     if not PATH.fullmatch(word):
         return False
-    if word.startswith("target/") or word.endswith(".a"):
-        return word.removeprefix("target/") in tree.text("Makefile")
+    if re.match(r"target/|.*\.(a|so(\.\d+)?)$", word):
+        return re.sub(r"^target/|(?<=\.so)\.\d+$", "", word) in tree.text("Makefile")
     pattern = re.sub(r"(NAME|CHANNEL|FUNCTION)", "*", word.rstrip("/"))
     if pattern.startswith("."):
         return any(name.endswith(pattern) for name in tree.files)
@@ -133,7 +135,7 @@ def is_call(tree, word):
 
 
 def is_command(tree, word):
-    """make TARGET VARIABLE=.., rt COMMAND .., pkg-config PACKAGE, or an option that the Makefile uses."""
+    """make TARGET VARIABLE=.., rt COMMAND .., pkg-config OPTIONS PACKAGE, or an option that the Makefile uses."""
     first, *rest = word.split()
     if first == "make":
         named = [part.partition("=") for part in rest]
@@ -141,7 +143,7 @@ def is_command(tree, word):
     if first == "rt":
         return rest[:1] != [] and rest[0] in RT and all(part in tree.crates or part == "NAME" or part.startswith("--") for part in rest[1:])
     if first == "pkg-config":
-        return len(rest) == 1 and tree.has(f"packaging/{rest[0]}.pc.in")
+        return rest != [] and tree.has(f"packaging/{rest[-1]}.pc.in") and all(part.startswith("--") for part in rest[:-1])
     return first.startswith("-") and not rest and first in tree.text("Makefile").split()
 
 
@@ -212,7 +214,7 @@ def page_faults(tree, page):
     for line in uneven(text):
         yield line, "a backtick without its fellow"
     for line, word in spans(text):
-        if not word or not known(tree, word) and not of_program(text, word):
+        if not word or not known(tree, word) and not package.known(tree, page, word) and not of_program(text, word):
             yield line, f"`{word}` names nothing that there is"
     for line, code in commands(text):
         yield from ((line, f"`{word}` names nothing that there is") for word in in_block(tree, code))
@@ -228,7 +230,7 @@ def man_faults(tree):
         word = match and re.sub(r"\\%|\"", "", match[2]).replace("\\-", "-")
         if match and match[1] in ("BR", "IR"):
             word = word.split()[0]
-        if match and not word.isdigit() and not known(tree, " ".join(word.split())):
+        if match and not word.isdigit() and not known(tree, " ".join(word.split())) and not package.known(tree, MAN, " ".join(word.split())):
             yield number, f"{word} names nothing that there is"
 
 

@@ -60,6 +60,18 @@ PLANTS = (
     ("a pilot bit in the rules", "docs/RULES.md", "| 00110 | 100110 | 1001101 |", "| 00110 | 100110 | 1001100 |", "docs/RULES.md"),
     ("a pilot bit in the specs", "crates/dpch/specs/UplinkPilots.antt", "(1 ∷ 1 ∷ 1 ∷ 1 ∷ 1 ∷ 0 ∷ 1 ∷ 1", "(1 ∷ 1 ∷ 1 ∷ 1 ∷ 1 ∷ 0 ∷ 0 ∷ 1", "docs/RULES.md"),
     ("the order of the uplink's fields", "crates/dpch/specs/Uplink.antt", "f .tfci ∷ f .fbi", "f .fbi ∷ f .tfci", ""),
+    ("a row of Python", "python/slt/_rows.py", "    \"slt_pich_q\": row(NP, PI, size(\"sfn\")),\n", "", "no row for slt_pich_q"),
+    ("a row of Python for no call", "python/slt/_rows.py", "\"slt_pich_q\": row(", "\"slt_pich_qq\": row(", "slt_pich_q"),
+    ("a type of a row", "python/slt/_rows.py", "size(\"sfn\")", "whole(\"sfn\")", "slt_pich_q"),
+    ("a run of a row", "python/slt/_rows.py", "room(\"frame\", PICH_FRAME)", "given(\"frame\", PICH_FRAME)", "slt_pich_map"),
+    ("a name of a row", "python/slt/_rows.py", "size(\"sfn\")", "size(\"nfs\")", "slt_pich_q"),
+    ("a function of Python", "python/slt/pich.py", "def pich_q(", "def pich_qq(", "pich_q"),
+    ("a sentence of Python", "python/slt/refusals.py", "both gains are zero", "both gains are 0", "refusal 12"),
+    ("a sentence of the rules", "docs/RULES.md", "| both gains are zero |", "| both gains are 0 |", "refusal 12"),
+    ("the version of Python", "python/slt/_library.py", "VERSION = \"1.0\"", "VERSION = \"1.1\"", "VERSION"),
+    ("a function on Python's page", "docs/PYTHON.md", "| `slt.pich_read(np", "| `slt.pich_reed(np", "slt.pich_reed"),
+    ("a name on Python's page", "docs/PYTHON.md", "`sentence`", "`sentense`", "sentense"),
+    ("a command of Python", "README.md", "`python -m slt --help`", "`python -m slot --help`", "python -m slot"),
     ("a refusal of the specs", "crates/run/specs/Refusals.antt", "pilotRefused = 7", "pilotRefused = 17", ""),
 )
 

@@ -7,11 +7,12 @@ set -eu
 command=${1:?run, sim or test}
 
 # The one list: a tool, the package of Debian that has it, and which command needs it (sim needs all that run needs, test needs all). rt itself uses some of them. What has the
-# mark 'else' is for processors other than x86-64, for which the prover compiles: there it is what compiles and runs programs of x86-64.
+# mark 'else' is for processors other than x86-64, for which the prover compiles: there it is what compiles and runs programs of x86-64. What has the mark 'may' the
+# command can do without: a step that has it does more.
 tools() {
-    while read -r tool package needed where; do
-        if test "$where" = else && test "$(uname -m)" = x86_64; then continue; fi
-        if test "$needed" = run || test "$needed" = "$command" || test "$command" = test; then "$1" "$tool" "$package"; fi
+    while read -r tool package needed mark; do
+        if test "$mark" = else && test "$(uname -m)" = x86_64; then continue; fi
+        if test "$needed" = run || test "$needed" = "$command" || test "$command" = test; then "$1" "$tool" "$package" "$mark"; fi
     done << 'LIST'
 make        make        run
 flock       util-linux  run
@@ -21,10 +22,13 @@ find        findutils   run
 cmp         diffutils   run
 cc          gcc         sim
 ar          binutils    sim
+nm          binutils    test
+readelf     binutils    test
 python3     python3     sim
 g++         g++         sim
 verilator   verilator   sim
 yosys       yosys       sim
+mypy        mypy        test  may
 pkg-config  pkg-config  test
 cargo       cargo       test
 qemu-x86_64-static           qemu-user-static           run   else
@@ -57,9 +61,21 @@ has() {
     esac
 }
 
-missing= packages=
+missing= packages= wished=
 note() {
-    has "$1" || { missing="$missing $1"; packages="$packages $2"; }
+    if has "$1"; then return; fi
+    if test "$3" = may; then wished="$wished $2"; else missing="$missing $1"; packages="$packages $2"; fi
+}
+
+# Whether packages can be installed from here. What a command can do without is worth one try that does not wait for long.
+may_install() {
+    command -v apt-get > /dev/null 2>&1 && test "$(id -u)" = 0
+}
+wish() {
+    if test -z "$wished"; then return; fi
+    echo "setup: installing what may be had:$wished." >&2
+    quick="-o Acquire::Retries=0 -o Acquire::http::Timeout=10"
+    { test -n "$missing" || apt-get $quick update -qq >&2; } && apt-get $quick install -y -qq $wished >&2 || echo "setup: going on without:$wished." >&2
 }
 
 # No package has the prover, so without it nothing else is worth installing.
@@ -68,7 +84,11 @@ if ! has rt; then
     exit 1
 fi
 tools note
-if test -z "$missing"; then exit 0; fi
+export DEBIAN_FRONTEND=noninteractive
+if test -z "$missing"; then
+    if may_install; then wish; fi
+    exit 0
+fi
 
 # Debian 12 has a cargo that is too old, and a new one beside it under another name. gcc alone has no headers of the C library.
 named() {
@@ -94,19 +114,19 @@ if ! command -v apt-get > /dev/null 2>&1; then
     echo "setup: missing:$missing (cargo must be 1.85 or newer). This machine has no apt-get: install them by its own means." >&2
     exit 1
 fi
-if test "$(id -u)" != 0; then
+if ! may_install; then
     echo "setup: missing:$missing. This installs them: $(foreign sudo)sudo apt-get install -y" $(named) >&2
     exit 1
 fi
 echo "setup: missing:$missing. Installing." >&2
-export DEBIAN_FRONTEND=noninteractive
 case $packages in
     *:amd64*) dpkg --add-architecture amd64 ;;
 esac
 apt-get update -qq >&2
 apt-get install -y -qq $(named) >&2
+wish
 
-missing= packages=
+missing= packages= wished=
 tools note
 if test -n "$missing"; then
     echo "setup: still missing:$missing (cargo must be 1.85 or newer; another cargo may stand before it on the path)." >&2
