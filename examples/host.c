@@ -50,6 +50,29 @@ static int paging(void) {
     return 0;
 }
 
+/* A slot of every format: the library says how long its runs are, and no table of formats is needed here. */
+static int every_format(void) {
+    uint8_t data[2048] = {0}, tfci[2048] = {0}, digits[2048];
+    size_t format = 0;
+
+    while (SLT_NUMBER(slt_slot_lengths(format, 0)) == SLT_DONE) {
+        unsigned n_data = SLT_VALUE(slt_slot_lengths(format, 0));
+        unsigned n_tfci = SLT_VALUE(slt_slot_lengths(format, 1));
+        unsigned n_slot = SLT_VALUE(slt_slot_lengths(format, 2));
+        if (n_slot > sizeof digits) {
+            return 1;
+        }
+        printf("format %zu: data %u, TFCI %u, slot %u digits\n", format, n_data, n_tfci, n_slot);
+        if (SLT_NUMBER(slt_slot_map(format, 0, 0, data, n_data, tfci, n_tfci, digits, n_slot)) != SLT_DONE) {
+            return 1;
+        }
+        format++;
+    }
+    print_answer("slt_slot_lengths of the next format", slt_slot_lengths(format, 0));
+    print_answer("slt_slot_lengths of a fourth run", slt_slot_lengths(0, 3));
+    return 0;
+}
+
 /* A slot of format 1 from its fields, read back, and with one pilot digit damaged. */
 static int slot(void) {
     const uint8_t data[2] = {1, 0}, tfci[2] = {0, 1};
@@ -238,5 +261,5 @@ static int waking(void) {
 }
 
 int main(void) {
-    return paging() || slot() || two_antennas() || compressed() || high_speed() || uplink() || random_access() || waking();
+    return paging() || every_format() || slot() || two_antennas() || compressed() || high_speed() || uplink() || random_access() || waking();
 }
