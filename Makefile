@@ -24,8 +24,9 @@ endif
 .PHONY: test tools-run tools-test steps lib slotline run fmt audit pictures judges second jobs cases host fuzz install package bench bench-programs bench-table clean
 
 # What the steps stand on is proved first, then the steps go two at a time, the output of each in one piece. rt ci comes last: it proves every crate from
-# nothing, tries every must-fail edit, and prints the verdict. It starts four checks at a time, so that two cores stay busy while one waits for its fellows.
-export RT_JOBS = 4
+# nothing, tries every must-fail edit, and prints the verdict. It starts eight checks at a time and waits for all
+# of them, so that two cores stay busy while the last ones end.
+export RT_JOBS = 8
 test: | tools-test
 	rt check $(BELOW_C) slotline
 	$(MAKE) --no-print-directory -j2 --output-sync=target steps
@@ -42,8 +43,8 @@ fmt:
 
 # Proves the C calls and what they stand on, and compiles them: an object for each channel's, in one archive. One rt at a time works in target/.
 ONE_RT = mkdir -p target && flock target/one-rt
-C_CALLS = slt_slot slt_antenna slt_frame slt_compressed slt_dpdch slt_dpcch slt_pich slt_wake slt_pccpch slt_hspdsch slt_sttd slt_aich slt_desk slt_combiner slt_sample
-BELOW_C = packed slot_read antenna_map antenna_read frame_map frame_read compressed_map compressed_read dpdch dpcch_read dpcch_frame_map dpcch_frame_read pich_map pich_read wake_run pccpch_read hspdsch_map hspdsch_read sttd sttd_values aich desk combiner sample
+C_CALLS = slt_slot slt_antenna slt_frame slt_compressed slt_dpdch slt_dpcch slt_pich slt_wake slt_pccpch slt_hspdsch slt_lengths slt_sttd slt_aich slt_desk slt_combiner slt_sample slt_bank
+BELOW_C = packed slot_read antenna_map antenna_read frame_map frame_read compressed_map compressed_read dpdch dpcch_read dpcch_frame_map dpcch_frame_read pich_map pich_read wake_run pccpch_read hspdsch_map hspdsch_read lengths sttd sttd_values aich desk combiner sample bank_store bank_read bank_drop
 lib:
 	$(ONE_RT) rt check $(BELOW_C)
 	for name in $(C_CALLS); do $(ONE_RT) rt staticlib $$name || exit 1; done
@@ -87,6 +88,7 @@ jobs: judges slotline
 	$(SECOND)/jobs $(abspath $(PROGRAM)) examples
 	sh examples/try_generator.sh $(abspath $(PROGRAM)) target/generator
 	$(SECOND)/jobs --print < target/generator/job.slt | cmp - target/generator/expected
+	$(SECOND)/jobs --print < target/generator/thousands.slt | cmp - target/generator/thousands.printed
 	python3 examples/try_mistakes.py $(PROGRAM)
 	python3 examples/try_mistakes.py $(SECOND)/jobs --print
 
@@ -96,13 +98,14 @@ cases: judges
 	$(SECOND)/cases --questions | cmp - crates/cases/stdin
 	$(SECOND)/cases | cmp - crates/cases/stdout
 
-# A C host under the sanitizers; what it prints is compared with what it should. Then the program that docs/WAKE.md shows.
+# A C host under the sanitizers; what it prints is compared with what it should. Then the programs that docs/WAKE.md and docs/BANK.md show.
 host: lib
 	mkdir -p target/host
 	$(CC) $(CFLAGS) $(SANITIZE) -Iinclude examples/host.c $(LIB) -o target/host/host
 	$(EMULATOR) target/host/host > target/host/stdout
 	cmp target/host/stdout examples/host.stdout
 	CC="$(CC) $(CFLAGS) $(SANITIZE) -Iinclude" EMULATOR="$(EMULATOR)" sh examples/try_wake.sh $(LIB) target/host
+	CC="$(CC) $(CFLAGS) $(SANITIZE) -Iinclude" EMULATOR="$(EMULATOR)" sh examples/try_page.sh BANK 0 $(LIB) target/host
 
 # Cases drawn at random: the C calls under the sanitizers, in memory where a stray access shows, and the program on files.
 # How many there are is fixed, and SEED decides which: `make fuzz SEED=2` tries others, with CASE=N only that C call.

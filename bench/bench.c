@@ -14,10 +14,12 @@ int main(int n_arguments, char **arguments) {
     bench_wake();
     bench_pccpch();
     bench_hspdsch();
+    bench_lengths();
     bench_sttd();
     bench_aich();
     bench_desk();
     bench_sample();
+    bench_bank();
     if (n_arguments == 4) bench_slotline(arguments[1], arguments[2], arguments[3]);
     return 0;
 }

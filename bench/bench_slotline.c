@@ -1,5 +1,6 @@
-/* The program slotline on the longest job, against the same program in C. All are started the same way, with the job as standard
- * input and nothing kept of what they print: what is timed is start, reading, mapping and printing. */
+/* The program slotline on the longest job of version 1 and on one of version 2 with 65535 records, against the same program in C. All
+ * are started the same way, with the job as standard input and nothing kept of what they print: what is timed is start, reading,
+ * mapping and printing. */
 #define _POSIX_C_SOURCE 200809L
 #include <fcntl.h>
 #include <spawn.h>
@@ -16,9 +17,9 @@
 
 extern char **environ;
 
-enum { CASES = 60, ROUNDS = 400, PROGRAMS = 3, LONGEST_TEXT = 1 << 19 };
+enum { CASES = 60, ROUNDS = 400, MANY_ROUNDS = 60, PROGRAMS = 3, LONGEST_TEXT = 1 << 23 };
 
-static uint8_t job[JOB_BYTES];
+static uint8_t job[MANY_BYTES];
 
 static _Noreturn void fail(const char *why, const char *of) {
     fprintf(stderr, "bench: %s %s\n", why, of);
@@ -62,16 +63,16 @@ static size_t text_of(const char *program, FILE *in, char *text) {
 }
 
 /* The job, and jobs that are damaged or cut, must give the same text. */
-static void compare(const char *const programs[PROGRAMS]) {
-    static uint8_t damaged[JOB_BYTES];
+static void compare(const char *const programs[PROGRAMS], size_t bytes, size_t header) {
+    static uint8_t damaged[MANY_BYTES];
     static char text[LONGEST_TEXT], other[LONGEST_TEXT];
     draw_from(1);
     for (unsigned k = 0; k < CASES; k++) {
-        memcpy(damaged, job, sizeof job);
+        memcpy(damaged, job, bytes);
         draw_damage(k > 0);
-        damage_digits(damaged, sizeof job);
-        damage_digits(damaged, JOB_HEADER);
-        FILE *in = file_of(damaged, k % 4 == 1 ? draw_below(sizeof job) : sizeof job);
+        damage_digits(damaged, bytes);
+        damage_digits(damaged, header);
+        FILE *in = file_of(damaged, k % 4 == 1 ? draw_below(bytes) : bytes);
         size_t n = text_of(programs[0], in, text);
         for (size_t p = 1; p < PROGRAMS; p++) {
             if (text_of(programs[p], in, other) != n || memcmp(text, other, n) != 0) {
@@ -82,11 +83,11 @@ static void compare(const char *const programs[PROGRAMS]) {
     }
 }
 
-static void row(const char *name, const char *const programs[PROGRAMS], size_t bytes) {
+static void row(const char *name, const char *const programs[PROGRAMS], size_t bytes, int rounds) {
     double best[PROGRAMS] = {1e18, 1e18, 1e18};
     FILE *in = file_of(job, bytes);
     int out = open("/dev/null", O_WRONLY);
-    for (int round = 0; round < ROUNDS; round++) {
+    for (int round = 0; round < rounds; round++) {
         for (size_t p = 0; p < PROGRAMS; p++) {
             double took = run_ns(programs[p], in, out);
             if (took < best[p]) best[p] = took;
@@ -101,8 +102,11 @@ static void row(const char *name, const char *const programs[PROGRAMS], size_t b
 void bench_slotline(const char *slotline, const char *tight, const char *plain) {
     const char *const programs[PROGRAMS] = {slotline, tight, plain};
     make_job(job);
-    compare(programs);
-    row("slotline, 65535 bytes", programs, sizeof job);
+    compare(programs, JOB_BYTES, JOB_HEADER);
+    row("slotline, 65535 bytes", programs, JOB_BYTES, ROUNDS);
     job[JOB_HEADER - 1] = 0;
-    row("slotline, no records", programs, JOB_HEADER);
+    row("slotline, no records", programs, JOB_HEADER, ROUNDS);
+    size_t many = make_many(job);
+    compare(programs, many, MANY_HEADER);
+    row("slotline, 65535 records", programs, many, MANY_ROUNDS);
 }

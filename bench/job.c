@@ -18,10 +18,10 @@ static void put_aich(void) {
     for (unsigned s = 0; s < 16; s++) put((uint8_t)((used + s) % 3));
 }
 
-static void put_pich(void) {
+static void put_pich(unsigned np) {
     put(2);
-    put(144);
-    for (unsigned q = 0; q < 144; q++) put((uint8_t)(q * 5 % 2));
+    put((uint8_t)np);
+    for (unsigned q = 0; q < np; q++) put((uint8_t)(q * 5 % 2));
 }
 
 static size_t dpch_record(size_t format) {
@@ -47,7 +47,7 @@ void make_job(uint8_t bytes[JOB_BYTES]) {
     used = JOB_HEADER;
     for (size_t format = 0; format < FORMAT_COUNT; format++, count += 3) {
         put_aich();
-        put_pich();
+        put_pich(144);
         put_dpch(format);
     }
     for (size_t format = FORMAT_COUNT; format-- > 0;) {
@@ -56,4 +56,19 @@ void make_job(uint8_t bytes[JOB_BYTES]) {
     for (; (JOB_BYTES - used) % dpch_record(0) != 0; count++) put_aich();
     for (; used < JOB_BYTES; count++) put_dpch(0);
     job[JOB_HEADER - 1] = (uint8_t)count;
+}
+
+/* AICH, PICH and the formats 0 to 7 in turn: records of 16 bytes on the whole, since so many longer ones do not fit. */
+size_t make_many(uint8_t bytes[MANY_BYTES]) {
+    job = bytes;
+    memcpy(job, "SLT\0\2\xff\xff", MANY_HEADER);
+    used = MANY_HEADER;
+    for (unsigned k = 0; k < MANY_RECORDS; k++) {
+        switch (k % 10) {
+        case 8: put_aich(); break;
+        case 9: put_pich(18); break;
+        default: put_dpch(k % 10);
+        }
+    }
+    return used;
 }

@@ -12,6 +12,11 @@ static inline uint64_t refuse(unsigned number, size_t place) {
     return (uint64_t)number | (uint64_t)place << 16;
 }
 
+/* The length of a run as the value; there are n of them. */
+static inline uint64_t tell_length(const size_t *lengths, size_t n, size_t run) {
+    return run < n ? (uint64_t)lengths[run] << 48 : refuse(11, 0);
+}
+
 /* The first digit above the limit, or n. */
 static inline size_t first_above(const uint8_t *s, size_t n, uint8_t limit) {
     size_t i = 0;

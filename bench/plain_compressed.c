@@ -65,3 +65,11 @@ uint64_t plain_compressed_read(size_t format, size_t kind, size_t first, size_t 
     }
     return 0;
 }
+
+uint64_t plain_compressed_lengths(size_t format, size_t kind, size_t first, size_t missing, size_t run) {
+    const struct format *f = compressed_row(format, kind);
+    if (f->slot == 0) return refuse(1, 0);
+    if (!gap_stands(first, missing)) return refuse(27, 0);
+    size_t sent = SLOTS - missing;
+    return tell_length((size_t[]){sent * data_of(f), sent * f->tfci, (size_t)SLOTS * f->slot, sent}, 4, run);
+}

@@ -93,3 +93,15 @@ uint64_t plain_dpcch_frame_read(size_t format, const uint8_t *frame, size_t n_fr
     }
     return 0;
 }
+
+uint64_t plain_dpcch_lengths(size_t format, size_t run) {
+    if (format >= DPCCH_FORMATS) return refuse(1, 0);
+    const struct dpcch_format *f = &DPCCH[format];
+    return tell_length((size_t[]){f->tfci, f->fbi, DPCCH_SLOT}, 3, run);
+}
+
+uint64_t plain_dpcch_frame_lengths(size_t format, size_t run) {
+    if (format >= DPCCH_FORMATS) return refuse(1, 0);
+    const struct dpcch_format *f = &DPCCH[format];
+    return tell_length((size_t[]){(size_t)SLOTS * f->tfci, (size_t)SLOTS * f->fbi, SLOTS * DPCCH_SLOT, SLOTS}, 4, run);
+}

@@ -30,3 +30,9 @@ uint64_t plain_slot_read(size_t format, size_t slot, const uint8_t *run, size_t 
     take_fields(f, run, data, tfci);
     return (uint64_t)run[f->data1] << 48;
 }
+
+uint64_t plain_slot_lengths(size_t format, size_t run) {
+    if (format >= FORMAT_COUNT) return refuse(1, 0);
+    const struct format *f = &FORMATS[format];
+    return tell_length((size_t[]){data_of(f), f->tfci, f->slot}, 3, run);
+}

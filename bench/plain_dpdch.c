@@ -29,3 +29,17 @@ uint64_t plain_dpdch_frame_map(size_t format, const uint8_t *data, size_t n_data
 uint64_t plain_dpdch_frame_read(size_t format, const uint8_t *frame, size_t n_frame, uint8_t *data, size_t n_data) {
     return carry(format, SLOTS, frame, n_frame, data, n_data);
 }
+
+static uint64_t length(size_t format, size_t slots, size_t run) {
+    if (format >= DPDCH_FORMATS) return refuse(1, 0);
+    size_t n = slots * DPDCH_SLOT[format];
+    return tell_length((size_t[]){n, n}, 2, run);
+}
+
+uint64_t plain_dpdch_lengths(size_t format, size_t run) {
+    return length(format, 1, run);
+}
+
+uint64_t plain_dpdch_frame_lengths(size_t format, size_t run) {
+    return length(format, SLOTS, run);
+}

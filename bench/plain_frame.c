@@ -42,3 +42,9 @@ uint64_t plain_frame_read(size_t format, const uint8_t *frame, size_t n_frame, u
     }
     return 0;
 }
+
+uint64_t plain_frame_lengths(size_t format, size_t run) {
+    if (format >= FORMAT_COUNT) return refuse(1, 0);
+    const struct format *f = &FORMATS[format];
+    return tell_length((size_t[]){SLOTS * data_of(f), (size_t)SLOTS * f->tfci, (size_t)SLOTS * f->slot, SLOTS}, 4, run);
+}

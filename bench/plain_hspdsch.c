@@ -67,3 +67,8 @@ uint64_t plain_hspdsch_read(size_t format, const uint8_t *antenna1, size_t n1, c
     memcpy(data, antenna1, n);
     return 0;
 }
+
+uint64_t plain_hspdsch_lengths(size_t format, size_t run) {
+    if (format >= HSPDSCH_FORMATS) return refuse(1, 0);
+    return tell_length((size_t[]){SUBFRAME[format], SUBFRAME[format], SUBFRAME[format]}, 3, run);
+}

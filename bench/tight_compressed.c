@@ -70,3 +70,10 @@ uint64_t tight_compressed_read(size_t format, size_t kind, size_t first, size_t 
     }
     return 0;
 }
+
+uint64_t tight_compressed_lengths(size_t format, size_t kind, size_t first, size_t missing, size_t run) {
+    const struct format *f = compressed_row(format, kind);
+    if (f->slot == 0 || !gap_stands(first, missing) || run > 3) return plain_compressed_lengths(format, kind, first, missing, run);
+    size_t slots = run == 2 ? SLOTS : SLOTS - missing;
+    return (uint64_t)(slots * (run == 0 ? data_of(f) : run == 1 ? f->tfci : run == 2 ? f->slot : 1)) << 48;
+}

@@ -66,3 +66,15 @@ uint64_t tight_dpcch_frame_read(size_t format, const uint8_t *frame, size_t n_fr
     }
     return 0;
 }
+
+uint64_t tight_dpcch_lengths(size_t format, size_t run) {
+    if (format >= DPCCH_FORMATS || run > 2) return plain_dpcch_lengths(format, run);
+    const struct dpcch_format *f = &DPCCH[format];
+    return (uint64_t)(run == 0 ? f->tfci : run == 1 ? f->fbi : DPCCH_SLOT) << 48;
+}
+
+uint64_t tight_dpcch_frame_lengths(size_t format, size_t run) {
+    if (format >= DPCCH_FORMATS || run > 3) return plain_dpcch_frame_lengths(format, run);
+    const struct dpcch_format *f = &DPCCH[format];
+    return (uint64_t)SLOTS * (run == 0 ? f->tfci : run == 1 ? f->fbi : run == 2 ? DPCCH_SLOT : 1) << 48;
+}

@@ -24,3 +24,9 @@ uint64_t tight_slot_read(size_t format, size_t slot, const uint8_t *run, size_t 
     take_fields(f, run, data, tfci);
     return (uint64_t)run[f->data1] << 48;
 }
+
+uint64_t tight_slot_lengths(size_t format, size_t run) {
+    if (format >= FORMAT_COUNT || run > 2) return plain_slot_lengths(format, run);
+    const struct format *f = &FORMATS[format];
+    return (uint64_t)(run == 0 ? data_of(f) : run == 1 ? f->tfci : f->slot) << 48;
+}

@@ -27,3 +27,11 @@ uint64_t tight_dpdch_frame_map(size_t format, const uint8_t *data, size_t n_data
 uint64_t tight_dpdch_frame_read(size_t format, const uint8_t *frame, size_t n_frame, uint8_t *data, size_t n_data) {
     return carried(format, SLOTS, frame, n_frame, data, n_data) ? 0 : plain_dpdch_frame_read(format, frame, n_frame, data, n_data);
 }
+
+uint64_t tight_dpdch_lengths(size_t format, size_t run) {
+    return format < DPDCH_FORMATS && run < 2 ? (uint64_t)10 << format << 48 : plain_dpdch_lengths(format, run);
+}
+
+uint64_t tight_dpdch_frame_lengths(size_t format, size_t run) {
+    return format < DPDCH_FORMATS && run < 2 ? (uint64_t)150 << format << 48 : plain_dpdch_frame_lengths(format, run);
+}

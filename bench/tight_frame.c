@@ -50,3 +50,9 @@ uint64_t tight_frame_read(size_t format, const uint8_t *frame, size_t n_frame, u
     }
     return 0;
 }
+
+uint64_t tight_frame_lengths(size_t format, size_t run) {
+    if (format >= FORMAT_COUNT || run > 3) return plain_frame_lengths(format, run);
+    const struct format *f = &FORMATS[format];
+    return (uint64_t)(SLOTS * (run == 0 ? data_of(f) : run == 1 ? f->tfci : run == 2 ? f->slot : 1)) << 48;
+}

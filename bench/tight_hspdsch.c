@@ -58,3 +58,7 @@ uint64_t tight_hspdsch_read(size_t format, const uint8_t *antenna1, size_t n1, c
     memcpy(data, antenna1, n);
     return 0;
 }
+
+uint64_t tight_hspdsch_lengths(size_t format, size_t run) {
+    return format < HSPDSCH_FORMATS && run < 3 ? (uint64_t)QPSK << format << 48 : plain_hspdsch_lengths(format, run);
+}

@@ -57,6 +57,14 @@
                                  uint8_t *antenna2, size_t n2);                                                                 \
     uint64_t whose##_hspdsch_read(size_t format, const uint8_t *antenna1, size_t n1, const uint8_t *antenna2, size_t n2,        \
                                   uint8_t *data, size_t n_data);                                                                \
+    uint64_t whose##_slot_lengths(size_t format, size_t run);                                                                   \
+    uint64_t whose##_frame_lengths(size_t format, size_t run);                                                                  \
+    uint64_t whose##_compressed_lengths(size_t format, size_t kind, size_t first, size_t missing, size_t run);                  \
+    uint64_t whose##_dpdch_lengths(size_t format, size_t run);                                                                  \
+    uint64_t whose##_dpdch_frame_lengths(size_t format, size_t run);                                                            \
+    uint64_t whose##_dpcch_lengths(size_t format, size_t run);                                                                  \
+    uint64_t whose##_dpcch_frame_lengths(size_t format, size_t run);                                                            \
+    uint64_t whose##_hspdsch_lengths(size_t format, size_t run);                                                                \
     uint64_t whose##_sttd_digits(const uint8_t *input, size_t n_input, uint8_t *out, size_t n_out);                             \
     uint64_t whose##_sttd_values(const int32_t *input, size_t n_input, int32_t *out, size_t n_out);                             \
     uint64_t whose##_aich_map(const int32_t *indicators, size_t n_indicators, int32_t *values, size_t n_values);                \
@@ -75,7 +83,10 @@
                                            size_t n_received, int64_t *results, size_t n_results);                              \
     slt_sample whose##_sample_off(int64_t i, int64_t q, size_t antenna);                                                        \
     slt_sample whose##_sample_shared(int64_t i, int64_t q, float level, size_t antenna);                                        \
-    slt_sample whose##_sample_each(int64_t i, int64_t q, float first, float second, size_t antenna);
+    slt_sample whose##_sample_each(int64_t i, int64_t q, float first, float second, size_t antenna);                            \
+    uint64_t whose##_bank_store(uint8_t *bank, size_t n_bank, size_t number, const uint8_t *slot, size_t n_slot);               \
+    uint64_t whose##_bank_fetch(const uint8_t *bank, size_t n_bank, size_t number, uint8_t *out, size_t n_out);                 \
+    uint64_t whose##_bank_drop(uint8_t *bank, size_t n_bank, size_t number);
 
 YARDSTICK(plain)
 YARDSTICK(tight)

@@ -163,6 +163,38 @@ static void hspdsch_read(struct test *t) {
     t->got = slt_hspdsch_read(t->given[0], digits(t, 0), n(t, 0), digits(t, 1), n(t, 1), digits(t, 2), n(t, 2));
 }
 
+static void slot_lengths(struct test *t) {
+    t->got = slt_slot_lengths(t->given[0], t->given[1]);
+}
+
+static void frame_lengths(struct test *t) {
+    t->got = slt_frame_lengths(t->given[0], t->given[1]);
+}
+
+static void compressed_lengths(struct test *t) {
+    t->got = slt_compressed_lengths(t->given[0], t->given[1], t->given[2], t->given[3], t->given[4]);
+}
+
+static void dpdch_lengths(struct test *t) {
+    t->got = slt_dpdch_lengths(t->given[0], t->given[1]);
+}
+
+static void dpdch_frame_lengths(struct test *t) {
+    t->got = slt_dpdch_frame_lengths(t->given[0], t->given[1]);
+}
+
+static void dpcch_lengths(struct test *t) {
+    t->got = slt_dpcch_lengths(t->given[0], t->given[1]);
+}
+
+static void dpcch_frame_lengths(struct test *t) {
+    t->got = slt_dpcch_frame_lengths(t->given[0], t->given[1]);
+}
+
+static void hspdsch_lengths(struct test *t) {
+    t->got = slt_hspdsch_lengths(t->given[0], t->given[1]);
+}
+
 static void aich_map(struct test *t) {
     t->got = slt_aich_map(values(t, 0), n(t, 0), values(t, 1), n(t, 1));
 }
@@ -211,6 +243,30 @@ static void sample_each(struct test *t) {
     keep(t, slt_sample_each(whole(t, 0), whole(t, 1), level(t, 2), level(t, 3), t->given[4]));
 }
 
+static void bank_empty(struct test *t) {
+    t->got = slt_bank_empty(digits(t, 0), n(t, 0));
+}
+
+static void bank_store(struct test *t) {
+    t->got = slt_bank_store(digits(t, 0), n(t, 0), t->given[0], digits(t, 1), n(t, 1));
+}
+
+static void bank_fetch(struct test *t) {
+    t->got = slt_bank_fetch(digits(t, 0), n(t, 0), t->given[0], digits(t, 1), n(t, 1));
+}
+
+static void bank_drop(struct test *t) {
+    t->got = slt_bank_drop(digits(t, 0), n(t, 0), t->given[0]);
+}
+
+static void bank_length(struct test *t) {
+    t->got = slt_bank_length(digits(t, 0), n(t, 0), t->given[0]);
+}
+
+static void bank_room(struct test *t) {
+    t->got = slt_bank_room(digits(t, 0), n(t, 0));
+}
+
 const struct call calls[] = {
     {"slt_pich_q", 3, "", pich_q},
     {"slt_pich_map", 1, "11", pich_map},
@@ -239,6 +295,14 @@ const struct call calls[] = {
     {"slt_pccpch_read", 0, "111", pccpch_read},
     {"slt_hspdsch_map", 1, "111", hspdsch_map},
     {"slt_hspdsch_read", 1, "111", hspdsch_read},
+    {"slt_slot_lengths", 2, "", slot_lengths},
+    {"slt_frame_lengths", 2, "", frame_lengths},
+    {"slt_compressed_lengths", 5, "", compressed_lengths},
+    {"slt_dpdch_lengths", 2, "", dpdch_lengths},
+    {"slt_dpdch_frame_lengths", 2, "", dpdch_frame_lengths},
+    {"slt_dpcch_lengths", 2, "", dpcch_lengths},
+    {"slt_dpcch_frame_lengths", 2, "", dpcch_frame_lengths},
+    {"slt_hspdsch_lengths", 2, "", hspdsch_lengths},
     {"slt_aich_map", 0, "44", aich_map},
     {"slt_aich_read", 0, "44", aich_read},
     {"slt_aich_map_available", 1, "44", aich_map_available},
@@ -250,6 +314,12 @@ const struct call calls[] = {
     {"slt_sample_off", 3, "", sample_off},
     {"slt_sample_shared", 4, "", sample_shared},
     {"slt_sample_each", 5, "", sample_each},
+    {"slt_bank_empty", 0, "1", bank_empty},
+    {"slt_bank_store", 1, "11", bank_store},
+    {"slt_bank_fetch", 1, "11", bank_fetch},
+    {"slt_bank_drop", 1, "1", bank_drop},
+    {"slt_bank_length", 1, "1", bank_length},
+    {"slt_bank_room", 0, "1", bank_room},
 };
 
 const size_t n_calls = sizeof calls / sizeof calls[0];

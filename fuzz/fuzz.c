@@ -46,13 +46,16 @@ static void take_run(struct run *run, char size) {
     run->place = kind[1];
     run->size = (size_t)(size - '0');
     run->length = take_number();
-    if (run->what > HUGE_ROOM || run->place > BEHIND_FORBIDDEN) {
+    if (run->what > CHANGED || run->place > BEHIND_FORBIDDEN) {
         give_up("a run of no kind");
     }
     if (run->what != HUGE_ROOM && run->length > LONGEST / run->size) {
         give_up("a run is too long");
     }
-    if (run->what == HELD || run->what == WRITTEN) {
+    if (run->what == CHANGED) {
+        take(run->before, run->length * run->size);
+    }
+    if (run->what == HELD || run->what == WRITTEN || run->what == CHANGED) {
         take(run->told, run->length * run->size);
     }
 }
@@ -103,9 +106,10 @@ static void make_call(void) {
 }
 
 int main(void) {
-    static uint8_t told[MOST_RUNS][LONGEST];
+    static uint8_t told[MOST_RUNS][LONGEST], before[MOST_RUNS][LONGEST];
     for (size_t i = 0; i < MOST_RUNS; i++) {
         test.run[i].told = told[i];
+        test.run[i].before = before[i];
     }
     speak_of(&test);
     prepare_memory();

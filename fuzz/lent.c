@@ -121,10 +121,12 @@ void lend(struct run *run, size_t index, uint64_t salt) {
     }
     if (run->what == HELD) {
         memcpy(run->lent, run->told, bytes_of(run));
+    } else if (run->what == CHANGED) {
+        memcpy(run->lent, run->before, bytes_of(run));
     } else {
         fill(run->lent, bytes_of(run), salt);
     }
-    if (run->place != ON_HEAP && run->what != WRITTEN) {
+    if (run->place != ON_HEAP && run->what != WRITTEN && run->what != CHANGED) {
         allow(stretch[index], LONGEST, PROT_READ);
         sealed[index] = true;
     }
@@ -153,7 +155,7 @@ const char *take_back(struct run *run, uint64_t salt, ptrdiff_t *at) {
     size_t wrong = first_wrong(run, salt);
     if (wrong != bytes_of(run)) {
         *at = (ptrdiff_t)wrong;
-        return run->what == WRITTEN ? "does not hold what it should" : "was changed";
+        return run->what == WRITTEN || run->what == CHANGED ? "does not hold what it should" : "was changed";
     }
     if (run->place == ON_HEAP) {
         free(run->lent);

@@ -38,12 +38,12 @@ static void say_answer(const char *whose, uint64_t answer, struct sample_bits sa
 }
 
 static void say_run(size_t i) {
-    static const char *const whats[] = {"holds", "is to hold", "is to be kept", "is NULL", "is huge"};
+    static const char *const whats[] = {"holds", "is to hold", "is to be kept", "is NULL", "is huge", "is to hold in the end"};
     static const char *const places[] = {", on the heap,", ", before a forbidden page,", ", behind a forbidden page,"};
     const struct run *run = &current->run[i];
     fprintf(stderr, "  run %zu: %zu elements of %zu bytes%s %s", i, run->length, run->size,
-            run->what > KEPT ? "," : places[run->place], whats[run->what]);
-    size_t bytes = run->what > WRITTEN ? 0 : run->length * run->size;
+            run->what == NO_RUN || run->what == HUGE_ROOM ? "," : places[run->place], whats[run->what]);
+    size_t bytes = run->what == HELD || run->what == WRITTEN || run->what == CHANGED ? run->length * run->size : 0;
     for (size_t b = 0; b < bytes && b < SHOWN * run->size; b++) {
         fprintf(stderr, "%s%02x", b % run->size == 0 ? " " : "", run->told[b]);
     }

@@ -9,8 +9,8 @@
 #define MOST_NUMBERS 5
 #define MOST_RUNS 4
 
-/* The longest run that is told in the stream, in bytes. */
-#define LONGEST ((size_t)1 << 16)
+/* The longest run that is told in the stream, in bytes: more than the longest buffer of a bank, and whole pages. */
+#define LONGEST (((size_t)1 << 16) + 4096)
 
 /* What a run is. */
 enum what {
@@ -18,7 +18,8 @@ enum what {
     WRITTEN, /* the elements told are those it must hold after the call */
     KEPT,    /* room that nothing may be written to */
     NO_RUN,  /* NULL, with length 0 */
-    HUGE_ROOM /* room too long for any memory; nothing may be written to it */
+    HUGE_ROOM, /* room too long for any memory; nothing may be written to it */
+    CHANGED  /* told twice: the elements it holds before the call, and those it must hold after */
 };
 
 /* Where a run is put. */
@@ -30,6 +31,7 @@ struct run {
     size_t length;  /* in elements */
     size_t size;    /* of an element, in bytes */
     uint8_t *told;  /* LONGEST bytes; those of the stream, if any */
+    uint8_t *before; /* the same; those before the call of a run that is told twice */
     uint8_t *lent;  /* what the call is given */
 };
 

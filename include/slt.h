@@ -51,7 +51,7 @@ extern "C" {
 #define SLT_REFUSED_GAINS 12u  /* both gains zero */
 
 /* Of a job file, which the program slotline reads: no call gives them. The place is a byte offset. */
-#define SLT_REFUSED_OVER_LONG 20u   /* more than 65535 bytes */
+#define SLT_REFUSED_OVER_LONG 20u   /* more bytes than its version may have */
 #define SLT_REFUSED_MARK 21u        /* wrong mark */
 #define SLT_REFUSED_VERSION 22u     /* version not known */
 #define SLT_REFUSED_KIND 23u        /* kind not known */
@@ -63,6 +63,12 @@ extern "C" {
 
 /* Of compressed frames. */
 #define SLT_REFUSED_GAP 27u /* a gap that leaves too few or too many slots of a compressed frame, or runs past slot 14 */
+
+/* Of a bank of slots. The place is 0. */
+#define SLT_REFUSED_BANK 28u    /* a buffer under 8 or over 65536 bytes, or bytes that are no bank */
+#define SLT_REFUSED_ABSENT 29u  /* no slot with the number in the bank */
+#define SLT_REFUSED_PRESENT 30u /* a slot with the number is already in the bank */
+#define SLT_REFUSED_ROOM 31u    /* no room: the total taken plus the new slot plus 4 exceeds the buffer */
 
 /* Of the wake simulation. */
 #define SLT_REFUSED_COUNT 32u /* frames read or frames that woke stand at 4294967295 */
@@ -175,6 +181,29 @@ uint64_t slt_hspdsch_map(size_t format, const uint8_t *data, size_t n_data, uint
 uint64_t slt_hspdsch_read(size_t format, const uint8_t *antenna1, size_t n_antenna1, const uint8_t *antenna2, size_t n_antenna2,
                           uint8_t *data, size_t n_data);
 
+/* Lengths of runs: how many elements each run of a mapper has, as the value. Runs are counted from 0 in the order in which the mapper
+ * tells refusal 3 of them; a run that there is not is refused with 11, place 0. So no caller needs a table of formats. */
+
+/* A slot of the downlink DPCH, on either antenna: 0 data, 1 TFCI, 2 slot. */
+uint64_t slt_slot_lengths(size_t format, size_t run);
+
+/* A frame of it: 0 data, 1 TFCI, 2 frame, 3 commands. */
+uint64_t slt_frame_lengths(size_t format, size_t run);
+
+/* A compressed frame of it: 0 data, 1 TFCI, 2 frame, 3 commands. A gap that does not stand is refused with 27, as the mapper does. */
+uint64_t slt_compressed_lengths(size_t format, size_t kind, size_t first, size_t missing, size_t run);
+
+/* A slot and a frame of the uplink DPDCH: 0 data, 1 slot or frame. */
+uint64_t slt_dpdch_lengths(size_t format, size_t run);
+uint64_t slt_dpdch_frame_lengths(size_t format, size_t run);
+
+/* A slot of the uplink DPCCH: 0 TFCI, 1 FBI, 2 slot. A frame of it: 0 TFCI, 1 FBI, 2 frame, 3 commands. */
+uint64_t slt_dpcch_lengths(size_t format, size_t run);
+uint64_t slt_dpcch_frame_lengths(size_t format, size_t run);
+
+/* A subframe of the HS-PDSCH: 0 data, 1 antenna 1, 2 antenna 2. */
+uint64_t slt_hspdsch_lengths(size_t format, size_t run);
+
 /* AICH (TS 25.211, 5.3.3.7): 16 indicators -1, 0, +1 and 32 values. */
 uint64_t slt_aich_map(const int32_t *indicators, size_t n_indicators, int32_t *values, size_t n_values);
 uint64_t slt_aich_read(const int32_t *values, size_t n_values, int32_t *indicators, size_t n_indicators);
@@ -216,6 +245,19 @@ typedef struct {
 slt_sample slt_sample_off(int64_t i, int64_t q, size_t antenna);
 slt_sample slt_sample_shared(int64_t i, int64_t q, float level, size_t antenna);
 slt_sample slt_sample_each(int64_t i, int64_t q, float first, float second, size_t antenna);
+
+/* A bank of stimulus slots in a buffer of 8 to 65536 bytes (docs/BANK.md): slots of 10 to 1280 digits under the numbers 0 to 255. The bank itself
+ * takes 8 bytes, and a slot 4 more than its digits. Nothing is kept outside the buffer, which may be moved and copied. */
+uint64_t slt_bank_empty(uint8_t *bank, size_t n_bank);
+uint64_t slt_bank_store(uint8_t *bank, size_t n_bank, size_t number, const uint8_t *slot, size_t n_slot);
+uint64_t slt_bank_fetch(const uint8_t *bank, size_t n_bank, size_t number, uint8_t *out, size_t n_out);
+uint64_t slt_bank_drop(uint8_t *bank, size_t n_bank, size_t number);
+
+/* The value is the number of digits that slt_bank_fetch needs room for. */
+uint64_t slt_bank_length(const uint8_t *bank, size_t n_bank, size_t number);
+
+/* The value is the number of bytes that are not taken. */
+uint64_t slt_bank_room(const uint8_t *bank, size_t n_bank);
 
 #ifdef __cplusplus
 }

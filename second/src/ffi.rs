@@ -366,6 +366,51 @@ pub fn hspdsch_read(format: usize, antenna1: &mut Lent<u8>, antenna2: &mut Lent<
     })
 }
 
+// Lengths of runs
+
+unsafe extern "C" {
+    fn slt_slot_lengths(format: usize, run: usize) -> u64;
+    fn slt_frame_lengths(format: usize, run: usize) -> u64;
+    fn slt_compressed_lengths(format: usize, kind: usize, first: usize, missing: usize, run: usize) -> u64;
+    fn slt_dpdch_lengths(format: usize, run: usize) -> u64;
+    fn slt_dpdch_frame_lengths(format: usize, run: usize) -> u64;
+    fn slt_dpcch_lengths(format: usize, run: usize) -> u64;
+    fn slt_dpcch_frame_lengths(format: usize, run: usize) -> u64;
+    fn slt_hspdsch_lengths(format: usize, run: usize) -> u64;
+}
+
+pub fn slot_lengths(format: usize, run: usize) -> Answer {
+    Answer::unpack(unsafe { slt_slot_lengths(format, run) })
+}
+
+pub fn frame_lengths(format: usize, run: usize) -> Answer {
+    Answer::unpack(unsafe { slt_frame_lengths(format, run) })
+}
+
+pub fn compressed_lengths(of: Frame, run: usize) -> Answer {
+    Answer::unpack(unsafe { slt_compressed_lengths(of.format, of.kind, of.first, of.missing, run) })
+}
+
+pub fn dpdch_lengths(format: usize, run: usize) -> Answer {
+    Answer::unpack(unsafe { slt_dpdch_lengths(format, run) })
+}
+
+pub fn dpdch_frame_lengths(format: usize, run: usize) -> Answer {
+    Answer::unpack(unsafe { slt_dpdch_frame_lengths(format, run) })
+}
+
+pub fn dpcch_lengths(format: usize, run: usize) -> Answer {
+    Answer::unpack(unsafe { slt_dpcch_lengths(format, run) })
+}
+
+pub fn dpcch_frame_lengths(format: usize, run: usize) -> Answer {
+    Answer::unpack(unsafe { slt_dpcch_frame_lengths(format, run) })
+}
+
+pub fn hspdsch_lengths(format: usize, run: usize) -> Answer {
+    Answer::unpack(unsafe { slt_hspdsch_lengths(format, run) })
+}
+
 // AICH
 
 unsafe extern "C" {
@@ -481,4 +526,39 @@ pub fn sample_shared(i: i64, q: i64, level: f32, antenna: usize) -> SampleBits {
 
 pub fn sample_each(i: i64, q: i64, first: f32, second: f32, antenna: usize) -> SampleBits {
     in_bits(unsafe { slt_sample_each(i, q, first, second, antenna) })
+}
+
+// Bank of slots
+
+unsafe extern "C" {
+    fn slt_bank_empty(bank: *mut u8, n_bank: usize) -> u64;
+    fn slt_bank_store(bank: *mut u8, n_bank: usize, number: usize, slot: *const u8, n_slot: usize) -> u64;
+    fn slt_bank_fetch(bank: *const u8, n_bank: usize, number: usize, out: *mut u8, n_out: usize) -> u64;
+    fn slt_bank_drop(bank: *mut u8, n_bank: usize, number: usize) -> u64;
+    fn slt_bank_length(bank: *const u8, n_bank: usize, number: usize) -> u64;
+    fn slt_bank_room(bank: *const u8, n_bank: usize) -> u64;
+}
+
+pub fn bank_empty(bank: &mut Lent<u8>) -> Answer {
+    Answer::unpack(unsafe { slt_bank_empty(bank.pointer(), bank.len()) })
+}
+
+pub fn bank_store(bank: &mut Lent<u8>, number: usize, slot: &mut Lent<u8>) -> Answer {
+    Answer::unpack(unsafe { slt_bank_store(bank.pointer(), bank.len(), number, slot.pointer(), slot.len()) })
+}
+
+pub fn bank_fetch(bank: &mut Lent<u8>, number: usize, out: &mut Lent<u8>) -> Answer {
+    Answer::unpack(unsafe { slt_bank_fetch(bank.pointer(), bank.len(), number, out.pointer(), out.len()) })
+}
+
+pub fn bank_drop(bank: &mut Lent<u8>, number: usize) -> Answer {
+    Answer::unpack(unsafe { slt_bank_drop(bank.pointer(), bank.len(), number) })
+}
+
+pub fn bank_length(bank: &mut Lent<u8>, number: usize) -> Answer {
+    Answer::unpack(unsafe { slt_bank_length(bank.pointer(), bank.len(), number) })
+}
+
+pub fn bank_room(bank: &mut Lent<u8>) -> Answer {
+    Answer::unpack(unsafe { slt_bank_room(bank.pointer(), bank.len()) })
 }

@@ -37,11 +37,13 @@ const CHANNELS: &[Channel] = &[
     ("sttd", compare::sttd::all),
     ("pccpch", compare::pccpch::all),
     ("hspdsch", compare::hspdsch::all),
+    ("lengths", compare::lengths::all),
     ("aich", compare::aich::all),
     ("aich_available", compare::aich_available::all),
     ("desk", compare::desk::all),
     ("combiner", compare::combiner::all),
     ("sample", compare::sample::all),
+    ("bank", compare::bank::all),
 ];
 
 fn main() {

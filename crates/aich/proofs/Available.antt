@@ -14,18 +14,18 @@ use Rattle.run.specs.declared.Verdict.{Verdict}
 use Rattle.run.specs.First.{firstBad, all, Every}
 use Rattle.run.specs.Refusals.{signatureRefused}
 use Rattle.run.specs.Verdicts.{refused, done, orElse, leaves}
-use Rattle.run.proofs.First.{first-below, first-fails, none-first, every-by}
+use Rattle.run.proofs.First.{first-below, first-fails, first-same, none-first, every-by}
 use Rattle.run.proofs.Chain.{or-else-done, or-else-next, or-else-refused, or-else-pass, or-else-plain, or-else-last, unless-plain, each-plain, each-done, each-pass, each-stops, each-told, leaves-done, leaves-refused, one-outcome, number-0}
-use Rattle.run.proofs.Table.{tab-is}
 use Rattle.whole.specs.Equal.{eqZ}
 use Rattle.whole.proofs.Equal.{eqZ-true, eq-eqZ}
 use Rattle.aich.specs.Rule.{valuesOf, indicatorsIn, offers, allows}
 use Rattle.aich.specs.Outcome.{mapVerdict, readHead, readVerdict, Read, setVerdict, mapAvailableVerdict, MapAvailable, readAvailableVerdict, ReadAvailable}
-use Rattle.aich.specs.Method.{unitsOf}
+use Rattle.aich.specs.Method.{firsts, halfOf, alike, fitsAt, unitsOf}
 use Rattle.aich.specs.Exact.{Gives}
 use Rattle.aich.specs.Available.{Zero, SetIs, GivesUnder, AvailableExact, AllAvailable, Within, LargerSet, AvailableOnce}
-use Rattle.aich.proofs.Laws.{indicators-length, indicator-small, unit-sign}
-use Rattle.aich.proofs.Checks.{accepted}
+use Rattle.aich.proofs.Laws.{fit-zero}
+use Rattle.aich.proofs.Reading.{indicator-is, units-are, units-give}
+use Rattle.aich.proofs.Checks.{read-done as base-done}
 use Rattle.aich.proofs.Exact.{read-exact}
 
 -- ---- the check of the set
@@ -231,42 +231,38 @@ module _ (available : ℕ) (x : List ℤ) {good : Bool} (e : good ≡ all 16 (al
   pub none-stray : not good ≡ false → 16 ≤ firstBad (allows available x) 16
   none-stray h = leb-true _ _ (sym e ∙ not-false good h)
 
--- an indicator is its own sign
-units-same : (v : List ℤ) → unitsOf (indicatorsIn v) ≡ indicatorsIn v
-unfolding unitsOf
-units-same v = sym (tab-is (pos 0) (indicatorsIn v) 16 _ (indicators-length v) (λ s h. sym (unit-sign _ (indicator-small v s h))))
-
 module _ (available : ℕ) (v x : List ℤ) where
   read-ended : {answer : Verdict} {after : List ℤ} → Ended (readVerdict v (length x)) available (indicatorsIn v) (indicatorsIn v) x answer after
       → ReadAvailable available v x answer after
   unfolding readAvailableVerdict
   read-ended e = record { verdict-is = e .answered; indicators-is = e .left }
 
-  -- the run for the indicators has another length: the base refuses
-  pub read-unfit : (length x ≡ 16 → ⊥) → {answer : Verdict} {after : List ℤ} → Read v x answer after → ReadAvailable available v x answer after
-  unfolding readAvailableVerdict
-  read-unfit n p =
-      let is = or-else-refused _ (setVerdict available (indicatorsIn v)) (λ h. n (accepted v (length x) h .head .indicators-ok)) in
-      record { verdict-is = p .verdict-is ∙ sym is; indicators-is = left-as (indicatorsIn v) x (sym is) (p .indicators-is) }
+  -- the base refuses
+  pub read-refused : {answer : Verdict} → Read v x answer x → (answer .number ≡ 0 → ⊥) → ReadAvailable available v x answer x
+  read-refused p h =
+      rw (p .verdict-is) (read-ended (ended-refused _ (read-plain v (length x)) available (indicatorsIn v) (indicatorsIn v) x (rw (p .verdict-is) at h)))
 
-  -- it has the right one, and `found` is what the base left in an array
-  module _ (n : length x ≡ 16) {array found : List ℤ} {answer : Verdict} (p : Read v array answer found) (sized : length array ≡ 16) where
-    base-is : answer ≡ readVerdict v (length x)
-    base-is = p .verdict-is ∙ ap (readVerdict v) (sized ∙ sym n)
+  -- the base does not: the set is asked of the sums, each of which is 0 where its indicator is
+  module _ (sums : List ℤ) (head : readHead (length v) (length x) .number ≡ 0) (like : Every (alike v) 16) (is : sums ≡ halfOf (firsts v))
+      (fit : Every (fitsAt (halfOf (firsts v))) 16) where
+    base : Read v x (readHead (length v) (length x)) (indicatorsIn v)
+    base = base-done v x head (units-give v like fit) (indicatorsIn v) refl
 
-    pub read-refused : (answer .number ≡ 0 → ⊥) → ReadAvailable available v x answer x
-    read-refused h = rw base-is (read-ended (ended-refused _ (read-plain v (length x)) available (indicatorsIn v) (indicatorsIn v) x (rw base-is at h)))
+    zero : readVerdict v (length x) .number ≡ 0
+    zero = rw (base .verdict-is) at head
 
-    module _ (h : answer .number ≡ 0) (s : ℕ) (e : s ≡ firstBad (allows available found) 16) where
-      found-is : found ≡ indicatorsIn v
-      found-is = p .indicators-is ∙ leaves-done _ _ _ (rw (p .verdict-is) at h)
+    asked : firstBad (allows available sums) 16 ≡ firstBad (allows available (indicatorsIn v)) 16
+    unfolding allows
+    asked =
+        first-same _ _ 16
+        (λ s h. ap (λ (b : Bool). offers available s || b) (rw is (fit-zero _ (fit s h)) ∙ ap (λ (z : ℤ). eqZ z (pos 0)) (sym (indicator-is v like fit s h))))
 
-      pub read-stray : s < 16 → ReadAvailable available v x (refused signatureRefused s) x
-      read-stray l =
-          read-ended (ended-stray _ (read-plain v (length x)) available (indicatorsIn v) (indicatorsIn v) x (rw base-is at h) s (rw found-is at e) l)
+    pub read-stray : (s : ℕ) → s ≡ firstBad (allows available sums) 16 → s < 16 → ReadAvailable available v x (refused signatureRefused s) x
+    read-stray s e l =
+        read-ended (ended-stray _ (read-plain v (length x)) available (indicatorsIn v) (indicatorsIn v) x zero s (e ∙ asked) l)
 
-      pub read-done : 16 ≤ s → {after : List ℤ} → after ≡ unitsOf found → ReadAvailable available v x answer after
-      read-done l out =
-          rw base-is
-          (read-ended (ended-done _ (read-plain v (length x)) available (indicatorsIn v) (indicatorsIn v) x (rw base-is at h) s (rw found-is at e) l
-          (out ∙ ap unitsOf found-is ∙ units-same v)))
+    pub read-done : 16 ≤ firstBad (allows available sums) 16 → {after : List ℤ} → after ≡ unitsOf sums
+        → ReadAvailable available v x (readHead (length v) (length x)) after
+    read-done l out =
+        rw (base .verdict-is)
+        (read-ended (ended-done _ (read-plain v (length x)) available (indicatorsIn v) (indicatorsIn v) x zero _ asked l (out ∙ ap unitsOf is ∙ units-are v like fit)))

@@ -1,7 +1,7 @@
 -- What is known where no check refused.
 -- Assumes nothing.
 use mathlib.Core.Path.{_≡_, refl, sym, ap, _∙_}
-use mathlib.Core.Bool.{Bool, true, false}
+use mathlib.Core.Bool.{Bool, true, false, not}
 use mathlib.Core.List.{List}
 use Prim.Native.Nat.{ℕ}
 use native.Mathlib.Omega.{arith}
@@ -19,7 +19,7 @@ use Rattle.whole.proofs.Bound.{b-range}
 use Rattle.aich.specs.Rule.{indicatorsIn}
 use Rattle.aich.specs.Outcome.{mapVerdict, given, readHead, readVerdict, Read}
 use Rattle.aich.specs.Method.{Sixteen, halfOf, firsts, alike, fitsAt}
-use Rattle.run.proofs.Passing.{every-all}
+use Rattle.run.proofs.Passing.{every-all, passed}
 use Rattle.aich.proofs.Reading.{all-alike, all-fit}
 
 -- sixteen numbers in -1 to 1
@@ -96,6 +96,9 @@ unlike-stops v = stops v (alike v) (all-alike v)
 
 pub unfit-stops : (v sums : List ℤ) → sums ≡ halfOf (firsts v) → all 16 (fitsAt sums) ≡ false → given (indicatorsIn v) v ≡ false
 unfit-stops v sums e = stops v (fitsAt sums) (λ t. rw e (all-fit v t))
+
+pub sums-fit : (v sums : List ℤ) {good : Bool} → sums ≡ halfOf (firsts v) → good ≡ all 16 (fitsAt sums) → not good ≡ false → Every (fitsAt (halfOf (firsts v))) 16
+sums-fit v sums e f h = rw e at (passed (fitsAt sums) f h)
 
 pub read-head-refused : (v x : List ℤ) → (readHead (length v) (length x) .number ≡ 0 → ⊥) → Read v x (readHead (length v) (length x)) x
 unfolding readVerdict

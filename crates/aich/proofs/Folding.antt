@@ -9,12 +9,11 @@ use native.Mathlib.Nat.{two-pow-succ, pow-suc, suc-mul, mul-add, add-mul, mul-as
 use native.Mathlib.Omega.{arith}
 use borrow.Author.Tests.{ltb-true, ltb-false}
 use lib.Dec.{eqb, ltb}
-use lib.ListN.{length, getD, set}
+use lib.ListN.{length, getD}
 use lib.IntN.{ℤ, pos, _+ℤ_, _-ℤ_, _*ℤ_}
 use mir.Syntax.{Width}
 use mir.Val.{SFits, hbits, toZ, ofZ}
 use Rattle.run.specs.Table.{tab}
-use Rattle.run.proofs.Front.{Front, front-length, front-store}
 use Rattle.run.proofs.Table.{tab-length, tab-at, tab-is, tab-same}
 use Rattle.whole.specs.Bound.{Bounded}
 use Rattle.whole.proofs.Bound.{b-sum, b-diff, b-weaken}
@@ -169,33 +168,6 @@ folded-small {B} {x} p =
 
 pub sixteen-weaken : {A B : ℕ} {x : List ℤ} → A ≤ B → Sixteen A x → Sixteen B x
 sixteen-weaken l p = record { long = p .long; small = λ k h. b-weaken l (p .small k h) }
-
--- ---- one turn of the loop that folds, at any width: entries i and i + 8 are read, and their sum and difference stored
-module _ (w : Width) (x : List ℤ) (B i : ℕ) (p : Sixteen B x) (room : B + B < 2 ^ hbits w) (h : i < 8) where
-  first : Reads w (ofZ w (entry x i)) (entry x i) B
-  first = r-in (p .small i (omega arith)) (omega arith)
-
-  second : Reads w (ofZ w (entry x (i + 8))) (entry x (i + 8)) B
-  second = r-in (p .small (i + 8) (omega arith)) (omega arith)
-
-  pub turn-sum : SFits w (toZ w (ofZ w (entry x i)) +ℤ toZ w (ofZ w (entry x (i + 8))))
-  turn-sum = fits-sum first second room
-
-  pub turn-diff : SFits w (toZ w (ofZ w (entry x i)) -ℤ toZ w (ofZ w (entry x (i + 8))))
-  turn-diff = fits-diff first second room
-
-  -- both stored: the front is two entries longer
-  pub turn-front : (d₀ d : List ℤ) → length d₀ ≡ 16 → Front (folded x) d₀ d (2 * i)
-      → Front (folded x) d₀
-      (set (set d (2 * i) (toZ w (ofZ w (toZ w (ofZ w (entry x i)) +ℤ toZ w (ofZ w (entry x (i + 8)))))))
-      (2 * i + 1) (toZ w (ofZ w (toZ w (ofZ w (entry x i)) -ℤ toZ w (ofZ w (entry x (i + 8)))))))
-      (2 * (i + 1))
-  turn-front d₀ d e f =
-      let l = front-length f in
-      let one = front-store (pos 0) f (omega arith) (r-sum first second room .is ∙ even x i h) in
-      let m = front-length one in
-      let next : 2 * i + 1 + 1 ≡ 2 * (i + 1) = omega arith in
-      rw (← next) (front-store (pos 0) one (omega arith) (r-diff first second room .is ∙ odd x i h))
 
 -- ---- two foldings at a time: entries k, k + 4, k + 8 and k + 12 give four neighbours
 

@@ -115,10 +115,6 @@ unit-back : (y : ℤ) → Bounded 1 y → unit 32 (y *ℤ pos 16 +ℤ y *ℤ pos
 unfolding unit
 unit-back = each-unit (λ (y : ℤ). unit 32 (y *ℤ pos 16 +ℤ y *ℤ pos 16) ≡ y) refl refl refl
 
-pub unit-sign : (y : ℤ) → Bounded 1 y → signOf y ≡ y
-unfolding signOf
-unit-sign = each-unit (λ (y : ℤ). signOf y ≡ y) refl refl refl
-
 pub unit-fits : (y : ℤ) → Bounded 1 y → fits16 (y *ℤ pos 16) ≡ true
 unfolding fits16 signOf
 unit-fits = each-unit (λ (y : ℤ). fits16 (y *ℤ pos 16) ≡ true) refl refl refl
@@ -149,6 +145,10 @@ fit-sign = each-fit (λ (z : ℤ). unit 16 z ≡ signOf z) refl refl refl
 pub fit-is : (z : ℤ) → fits16 z ≡ true → z ≡ unit 16 z *ℤ pos 16
 unfolding unit
 fit-is = each-fit (λ (z : ℤ). z ≡ unit 16 z *ℤ pos 16) refl refl refl
+
+pub fit-zero : (z : ℤ) → fits16 z ≡ true → eqZ z (pos 0) ≡ eqZ (unit 16 z) (pos 0)
+unfolding unit
+fit-zero = each-fit (λ (z : ℤ). eqZ z (pos 0) ≡ eqZ (unit 16 z) (pos 0)) refl refl refl
 
 pub fit-twice : (z : ℤ) → fits16 z ≡ true → unit 32 (z +ℤ z) ≡ unit 16 z
 unfolding unit

@@ -9,16 +9,19 @@ use borrow.Author.Tests.{eqb-true, eqb-false}
 use lib.Dec.{eqb, lit<}
 use lib.ListN.{length}
 use lib.IntN.{ℤ, pos, negsuc, _*ℤ_}
+use mir.Syntax.{w32}
+use mir.Val.{toZ, ofZ}
 use Rattle.run.specs.First.{Every}
 use Rattle.run.proofs.Ranges.{range-parts, range-holds}
 use Rattle.run.proofs.Table.{tab-length, tab-at, tab-is}
 use Rattle.whole.specs.Bound.{Bounded}
 use Rattle.whole.specs.Equal.{eqZ}
 use Rattle.whole.proofs.Bound.{b-range, range-low, range-high, times-cancel}
+use Rattle.whole.proofs.Bits.{Reads, r-in}
 use Rattle.whole.proofs.Equal.{eqZ-true, eq-eqZ}
 use Rattle.aich.specs.Rule.{valueAt, unit, indicatorsIn}
 use Rattle.aich.specs.Outcome.{agrees, given}
-use Rattle.aich.specs.Method.{Sixteen, halfOf, firsts, isPair, alike, signOf, fitsAt, unitsOf}
+use Rattle.aich.specs.Method.{Sixteen, Paired, halfOf, firsts, isPair, alike, signOf, fitsAt, unitsOf}
 use Rattle.run.proofs.Passing.{all-every, every-all}
 use Rattle.aich.proofs.Laws.{entry, indicators-length, value-half, value-times, value-small, half-at, half-twice, unit-fits, fit-is, fit-sign, fit-twice, indicator-at, indicator-small, firsts-length, first-at, pairs-correlate, given-alike, given-sum}
 
@@ -28,7 +31,7 @@ and-parts false b e = absurd (let z : _≡_ {A = ℕ} 0 1 = cc in omega arith)
 
 -- the tests by what they say
 module _ (v : List ℤ) (k : ℕ) where
-  alike-parts : alike v k ≡ true → (entry v (2 * k) ≡ entry v (2 * k + 1)) × Bounded 16 (entry v (2 * k))
+  pub alike-parts : alike v k ≡ true → (entry v (2 * k) ≡ entry v (2 * k + 1)) × Bounded 16 (entry v (2 * k))
   unfolding isPair
   alike-parts e =
       let p = and-parts (eqZ (entry v (2 * k)) (entry v (2 * k + 1))) _ e in
@@ -43,6 +46,16 @@ module _ (v : List ℤ) (k : ℕ) where
 pub firsts-small : (v : List ℤ) → Every (alike v) 16 → Sixteen 16 (firsts v)
 firsts-small v like =
     record { long = firsts-length v; small = λ k h. rw (first-at v k h) (alike-parts v k (like k h) .1) }
+
+-- .. and is what its bits stand for
+module _ (v : List ℤ) (p : Paired v) (i : ℕ) (h : i < 16) where
+  pub pair-same : entry v (2 * i) ≡ entry v (2 * i + 1)
+  pair-same = alike-parts v i (p .like i h) .0
+
+  pub pair-kept : toZ w32 (ofZ w32 (entry v (2 * i))) ≡ entry (firsts v) i
+  pair-kept =
+      let r : Reads w32 (ofZ w32 (entry v (2 * i))) (entry v (2 * i)) 16 = r-in (alike-parts v i (p .like i h) .1) (lit< tt) in
+      r .is ∙ sym (first-at v i h)
 
 pub given-every : (x v : List ℤ) → given x v ≡ true → (j : ℕ) → j < 32 → valueAt x j ≡ entry v j
 unfolding given
@@ -80,7 +93,7 @@ module _ (v : List ℤ) (like : Every (alike v) 16) (fit : Every (fitsAt (halfOf
   pair : (k : ℕ) → k < 16 → entry v (2 * k) ≡ entry v (2 * k + 1)
   pair k h = alike-parts v k (like k h) .0
 
-  indicator-is : (s : ℕ) → s < 16 → entry (indicatorsIn v) s ≡ unit 16 (entry (halfOf (firsts v)) s)
+  pub indicator-is : (s : ℕ) → s < 16 → entry (indicatorsIn v) s ≡ unit 16 (entry (halfOf (firsts v)) s)
   indicator-is s h =
       indicator-at v s h
       ∙ ap (unit 32) (pairs-correlate v pair s ∙ rw (← half-at (firsts v) s h))

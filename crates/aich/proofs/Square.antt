@@ -105,10 +105,10 @@ module _ (x y : List ℤ) (k : ℕ) (v₀ v₁ v₂ v₃ : ℤ) (h : k < 4) (f :
           rw is (this y k v₀ v₁ v₂ v₃ (f .long) h (folded (folded x)) e₀ e₁ e₂ e₃ t m)
 
 -- the four numbers of a column
-pub column-four : (x : List ℤ) (k : ℕ) → Sixteen 1 x → k < 4 → Four w32 (entry x k) (entry x (k + 4)) (entry x (k + 8)) (entry x (k + 12))
+pub column-four : (x : List ℤ) (k : ℕ) → Sixteen 16 x → k < 4 → Four w32 (entry x k) (entry x (k + 4)) (entry x (k + 8)) (entry x (k + 12))
 column-four x k p h =
     record {
-      bound = 1;
+      bound = 16;
       a-in = p .small k (omega arith);
       b-in = p .small (k + 4) (omega arith);
       c-in = p .small (k + 8) (omega arith);
@@ -118,11 +118,11 @@ column-four x k p h =
 
 -- ---- a row, which is a column of what two foldings give
 
-module _ (x y : List ℤ) (p : Sixteen 1 x) (f : Turned 4 x y) (k : ℕ) (h : k < 4) where
+module _ (x y : List ℤ) (p : Sixteen 16 x) (f : Turned 4 x y) (k : ℕ) (h : k < 4) where
   abbrev z : List ℤ
   z = folded (folded x)
 
-  small : (i : ℕ) → i < 16 → Bounded 4 (entry z i)
+  small : (i : ℕ) → i < 16 → Bounded 64 (entry z i)
   small i l = folded-small (folded-small p) .small i l
 
   in-row : (i : ℕ) → i < 4 → entry y (4 * k + i) ≡ entry z (4 * i + k)
@@ -143,7 +143,7 @@ module _ (x y : List ℤ) (p : Sixteen 1 x) (f : Turned 4 x y) (k : ℕ) (h : k 
   pub row-four : Four w32 (entry y (4 * k)) (entry y (4 * k + 1)) (entry y (4 * k + 2)) (entry y (4 * k + 3))
   row-four =
       record {
-        bound = 4;
+        bound = 64;
         a-in = rw row₀ (small k (omega arith));
         b-in = rw row₁ (small (k + 4) (omega arith));
         c-in = rw row₂ (small (k + 8) (omega arith));
@@ -170,6 +170,44 @@ module _ (x y : List ℤ) (p : Sixteen 1 x) (f : Turned 4 x y) (k : ℕ) (h : k 
   pub fourth-value : (j : ℕ) → j / 2 ≡ 4 * k + 3 → j < 32
       → entry y (4 * k) -ℤ entry y (4 * k + 1) -ℤ (entry y (4 * k + 2) -ℤ entry y (4 * k + 3)) ≡ entry (valuesOf x) j
   fourth-value j e l = rw (row₀, row₁, row₂, row₃) (fourth-of-four z k h) ∙ value (4 * k + 3) j e l
+
+  -- .. and sum i by itself
+  sum-is : (i : ℕ) → entry (folded (folded z)) i ≡ entry (halfOf x) i
+  sum-is i = ap (λ (s : List ℤ). entry s i) (four-folds x)
+
+  pub first-sum : entry y (4 * k) +ℤ entry y (4 * k + 1) +ℤ (entry y (4 * k + 2) +ℤ entry y (4 * k + 3)) ≡ entry (halfOf x) (4 * k)
+  first-sum = rw (row₀, row₁, row₂, row₃) (first-of-four z k h) ∙ sum-is (4 * k)
+
+  pub second-sum : entry y (4 * k) -ℤ entry y (4 * k + 1) +ℤ (entry y (4 * k + 2) -ℤ entry y (4 * k + 3)) ≡ entry (halfOf x) (4 * k + 1)
+  second-sum = rw (row₀, row₁, row₂, row₃) (second-of-four z k h) ∙ sum-is (4 * k + 1)
+
+  pub third-sum : entry y (4 * k) +ℤ entry y (4 * k + 1) -ℤ (entry y (4 * k + 2) +ℤ entry y (4 * k + 3)) ≡ entry (halfOf x) (4 * k + 2)
+  third-sum = rw (row₀, row₁, row₂, row₃) (third-of-four z k h) ∙ sum-is (4 * k + 2)
+
+  pub fourth-sum : entry y (4 * k) -ℤ entry y (4 * k + 1) -ℤ (entry y (4 * k + 2) -ℤ entry y (4 * k + 3)) ≡ entry (halfOf x) (4 * k + 3)
+  fourth-sum = rw (row₀, row₁, row₂, row₃) (fourth-of-four z k h) ∙ sum-is (4 * k + 3)
+
+-- four sums are stored: the front is four entries longer
+module _ {t d₀ d : List ℤ} (k : ℕ) (v₀ v₁ v₂ v₃ : ℤ) (long : length d₀ ≡ 16) (h : k < 4) (f₀ : Front t d₀ d (4 * k)) where
+  pub four-next : v₀ ≡ entry t (4 * k) → v₁ ≡ entry t (4 * k + 1) → v₂ ≡ entry t (4 * k + 2) → v₃ ≡ entry t (4 * k + 3)
+      → Front t d₀ (set (set (set (set d (4 * k) v₀) (4 * k + 1) v₁) (4 * k + 2) v₂) (4 * k + 3) v₃) (4 * (k + 1))
+  four-next e₀ e₁ e₂ e₃ =
+      let f₁ = kept f₀ (omega arith) e₀ in
+      let f₂ = kept f₁ (omega arith) e₁ in
+      let i₂ : 4 * k + 1 + 1 ≡ 4 * k + 2 = omega arith in
+      let f₃ = kept (rw i₂ at f₂) (omega arith) e₂ in
+      let i₃ : 4 * k + 2 + 1 ≡ 4 * k + 3 = omega arith in
+      let f₄ = kept (rw i₃ at f₃) (omega arith) e₃ in
+      let i₄ : 4 * k + 3 + 1 ≡ 4 * (k + 1) = omega arith in
+      rw i₄ at f₄
+    where
+      kept : {d : List ℤ} {i : ℕ} {v : ℤ} → Front t d₀ d i → i < 16 → v ≡ entry t i → Front t d₀ (set d i v) (i + 1)
+      kept g l e = front-store (pos 0) g (omega (arith, front-length g, long)) e
+
+-- four numbers that are those of a column
+pub same-four : (x : List ℤ) (k : ℕ) {a b c d : ℤ} → Sixteen 16 x → k < 4
+    → a ≡ entry x k → b ≡ entry x (k + 4) → c ≡ entry x (k + 8) → d ≡ entry x (k + 12) → Four w32 a b c d
+same-four x k p h ea eb ec ed = rw (ea, eb, ec, ed) (column-four x k p h)
 
 -- eight values are stored: the front is eight entries longer
 module _ {t d₀ d : List ℤ} (k : ℕ) (v₀ v₁ v₂ v₃ : ℤ) (long : length d₀ ≡ 32) (h : k < 4) (f₀ : Front t d₀ d (8 * k)) where

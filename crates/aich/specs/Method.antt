@@ -9,6 +9,7 @@ use lib.Dec.{eqb}
 use lib.ListN.{length, getD}
 use lib.IntN.{ℤ, pos, negsuc, _+ℤ_, _-ℤ_, _*ℤ_}
 use lib.Signed.{ltZ}
+use Rattle.run.specs.First.{Every}
 use Rattle.run.specs.Ranges.{between}
 use Rattle.run.specs.Table.{tab}
 use Rattle.whole.specs.Equal.{eqZ}
@@ -47,6 +48,11 @@ isPair a b = eqZ a b && between (negsuc 15) (pos 16) a
 -- pair k is such
 abbrev pub alike : List ℤ → ℕ → Bool
 alike values k = isPair (getD values (2 * k) (pos 0)) (getD values (2 * k + 1) (pos 0))
+
+-- sixteen such pairs
+pub record Paired (values : List ℤ) : Type 0 where
+  pub long : length values ≡ 32
+  pub like : Every (alike values) 16
 
 -- the sign of a sum
 unfoldable pub signOf : ℤ → ℤ

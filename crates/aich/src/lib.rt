@@ -4,41 +4,15 @@ use run::or_else;
 use run::refusal;
 use run::unless;
 ghost use mathlib.Core.Path.{_≡_};
-ghost use lib.ListN.{length};
+ghost use Prim.Native.Nat.{_<_};
+ghost use lib.ListN.{length, getD};
+ghost use lib.IntN.{pos};
 ghost use Rattle.run.specs.First.{all};
 ghost use Rattle.aich.specs.Rule.{valuesOf};
 ghost use Rattle.aich.specs.Outcome.{mapVerdict, Map, readHead, Read, MapAvailable, ReadAvailable};
-ghost use Rattle.aich.specs.Method.{Sixteen, folded, Turned, halfOf, firsts, isPair, alike, signOf, fits16, fitsAt, unitsOf};
+ghost use Rattle.aich.specs.Method.{Sixteen, Turned, Paired, halfOf, firsts, isPair, alike, signOf, fits16, fitsAt, unitsOf};
 
 mod set;
-
-// Entries i and i + 8 become their sum and their difference, side by side.
-fn fold(x: &[i32]) -> [i32; 16]
-    requires { ⌜ Sixteen 1024 (now x) ⌝ }
-    ensures { λ r. ⌜ r ≡ folded (now (x .entry)) ⌝ }
-{
-    let mut y = [0i32; 16];
-    let mut i = 0;
-    while i < 8 {
-        let a = x[i];
-        let b = x[i + 8];
-        y[2 * i] = a + b;
-        y[2 * i + 1] = a - b;
-        i += 1;
-    }
-    y
-}
-
-// One value of each pair that the indicators give: four foldings are the sums over all signatures.
-fn transform(x: &[i32]) -> [i32; 16]
-    requires { ⌜ Sixteen 16 (now x) ⌝ }
-    ensures { λ r. ⌜ r ≡ halfOf (now (x .entry)) ⌝ }
-{
-    let once = fold(x);
-    let twice = fold(&once);
-    let thrice = fold(&twice);
-    fold(&thrice)
-}
 
 fn map_verdict(indicators: &[i32], values_length: usize) -> Verdict
     ensures { λ r. ⌜ r ≡ mapVerdict (now (indicators .entry)) «values_length» ⌝ }
@@ -53,7 +27,7 @@ fn map_verdict(indicators: &[i32], values_length: usize) -> Verdict
 // Two foldings at a time, with their places turned: entry k + 4t is entry 4k + t of what two foldings give. `n` is 4: the compiler does not know it, so that it keeps the loop
 // and goes four numbers at a time.
 fn columns(x: &[i32], n: usize, y: &mut [i32])
-    requires { ⌜ Sixteen 1 (now x) × (n ≡ 4) × (length (now y) ≡ 16) ⌝ }
+    requires { ⌜ Sixteen 16 (now x) × (n ≡ 4) × (length (now y) ≡ 16) ⌝ }
     ensures { λ _. ⌜ Turned 4 (now (x .entry)) (now (y .exit)) ⌝ }
 {
     let mut k = 0;
@@ -72,7 +46,7 @@ fn columns(x: &[i32], n: usize, y: &mut [i32])
 
 // Two foldings more are the sums, and each sum is the value of a pair.
 fn write_values(indicators: &[i32], values: &mut [i32])
-    requires { ⌜ Sixteen 1 (now indicators) × (length (now values) ≡ 32) ⌝ }
+    requires { ⌜ Sixteen 16 (now indicators) × (length (now values) ≡ 32) ⌝ }
     ensures { λ _. ⌜ now (values .exit) ≡ valuesOf (now (indicators .entry)) ⌝ }
 {
     let n = indicators.len() / 4;
@@ -151,18 +125,54 @@ fn all_alike(values: &[i32]) -> bool
     good
 }
 
-// One value of each pair.
-fn every_second(values: &[i32]) -> [i32; 16]
-    requires { ⌜ length (now values) ≡ 32 ⌝ }
-    ensures { λ r. ⌜ r ≡ firsts (now (values .entry)) ⌝ }
+// The value of a pair, whose two values are alike. Both are asked for: where only every second number is read the compiler goes one by one.
+fn value_of(values: &[i32], i: usize) -> i32
+    requires { ⌜ Paired (now values) × (i < 16) ⌝ }
+    ensures { λ r. ⌜ r ≡ getD (firsts (now (values .entry))) i (pos 0) ⌝ }
 {
-    let mut each = [0i32; 16];
+    let a = values[2 * i];
+    if a == values[2 * i + 1] { a } else { 0 }
+}
+
+// `columns` of one value of each pair.
+fn pair_columns(values: &[i32], n: usize, y: &mut [i32])
+    requires { ⌜ Paired (now values) × (n ≡ 4) × (length (now y) ≡ 16) ⌝ }
+    ensures { λ _. ⌜ Turned 4 (firsts (now (values .entry))) (now (y .exit)) ⌝ }
+{
     let mut k = 0;
-    while k < 16 {
-        each[k] = values[2 * k];
+    while k < n {
+        let a = value_of(values, k);
+        let b = value_of(values, k + 4);
+        let c = value_of(values, k + 8);
+        let d = value_of(values, k + 12);
+        y[k] = a + b + (c + d);
+        y[k + 4] = a - b + (c - d);
+        y[k + 8] = a + b - (c + d);
+        y[k + 12] = a - b - (c - d);
         k += 1;
     }
-    each
+}
+
+// The sum of each signature over the pairs: two foldings, and two more.
+fn find_sums(values: &[i32], sums: &mut [i32])
+    requires { ⌜ Paired (now values) × (length (now sums) ≡ 16) ⌝ }
+    ensures { λ _. ⌜ now (sums .exit) ≡ halfOf (firsts (now (values .entry))) ⌝ }
+{
+    let n = values.len() / 8;
+    let mut y = [0i32; 16];
+    pair_columns(values, n, &mut y);
+    let mut k = 0;
+    while k < n {
+        let a = y[4 * k];
+        let b = y[4 * k + 1];
+        let c = y[4 * k + 2];
+        let d = y[4 * k + 3];
+        sums[4 * k] = a + b + (c + d);
+        sums[4 * k + 1] = a - b + (c - d);
+        sums[4 * k + 2] = a + b - (c + d);
+        sums[4 * k + 3] = a - b - (c - d);
+        k += 1;
+    }
 }
 
 // The sign of a sum.
@@ -228,8 +238,8 @@ pub fn read(values: &[i32], indicators: &mut [i32]) -> Verdict
     if !all_alike(values) {
         return none_gives;
     }
-    let each = every_second(values);
-    let sums = transform(&each);
+    let mut sums = [0i32; 16];
+    find_sums(values, &mut sums);
     if !all_fit(&sums) {
         return none_gives;
     }
@@ -255,24 +265,32 @@ pub fn map_available(available: u16, indicators: &[i32], values: &mut [i32]) -> 
     verdict
 }
 
-// `read` under a set of available signatures. The indicators are found in an array first: nothing may be written before they are looked at.
+// `read` under a set of available signatures. A sum that fits is 0 where its indicator is, so the set is asked of the sums: nothing may be written before.
 pub fn read_available(available: u16, values: &[i32], indicators: &mut [i32]) -> Verdict
     ensures { λ r. ⌜ ReadAvailable available (now (values .entry)) (now (indicators .entry)) r (now (indicators .exit)) ⌝ }
 {
-    if indicators.len() != 16 {
-        return read(values, indicators);
+    let head = read_head(values.len(), indicators.len());
+    if head.number != 0 {
+        return head;
     }
-    let mut found = [0i32; 16];
-    let verdict = read(values, &mut found);
-    if verdict.number != 0 {
-        return verdict;
+    let none_gives = Verdict {
+        number: refusal::VALUES,
+        place: 0,
+    };
+    if !all_alike(values) {
+        return none_gives;
     }
-    if !set::none_stray(available as u32, &found) {
+    let mut sums = [0i32; 16];
+    find_sums(values, &mut sums);
+    if !all_fit(&sums) {
+        return none_gives;
+    }
+    if !set::none_stray(available as u32, &sums) {
         return Verdict {
             number: refusal::SIGNATURE,
-            place: set::first_stray(available as u32, &found),
+            place: set::first_stray(available as u32, &sums),
         };
     }
-    write_indicators(&found, indicators);
-    verdict
+    write_indicators(&sums, indicators);
+    head
 }

@@ -8,7 +8,7 @@ use run::unless;
 ghost use mathlib.Core.Path.{_≡_};
 ghost use mathlib.Core.Bool.{true};
 ghost use lib.ListN.{length};
-ghost use Rattle.run.specs.First.{firstBad, agree};
+ghost use Rattle.run.specs.First.{firstBad, Every, agree};
 ghost use Rattle.run.specs.Verdicts.{done};
 ghost use Rattle.dpch.specs.Formats.{formatOf};
 ghost use Rattle.antenna.specs.Rule.{secondOf};
@@ -73,15 +73,42 @@ fn check(format: usize, slot: usize, first: &[u8], second: &[u8]) -> Verdict
     or_else(unless(n <= i, refusal::DIGIT, i), above)
 }
 
-// Whether the first stream is a slot that some fields give, and the second is what it implies: then no check refuses.
+// Whether two runs of one length are the same. One length is worth a look whose length is a number.
+fn is_same(s: &[u8], t: &[u8]) -> bool
+    requires { ⌜ length (now t) ≡ length (now s) ⌝ }
+    ensures { λ r. ⌜ (r ≡ true → Every (agree (now (s .entry)) (now (t .entry))) (length (now (s .entry)))) ⌝ }
+{
+    match s.len() {
+        80 => scan::same_front(s, t, 80),
+        _ => s.len() <= scan::first_diff(s, t),
+    }
+}
+
+// Whether the first stream is a slot that some fields give, and the second is what it implies: then no check refuses. What it implies is made before the first stream
+// is looked at: so it is in memory when it is compared.
+fn agrees_in(format: usize, slot: usize, first: &[u8], second: &[u8], implied: &mut [u8]) -> bool
+    requires { ⌜ (length (now first) ≡ formatOf format .slot) × (length (now second) ≡ formatOf format .slot) × (length (now implied) ≡ formatOf format .slot) ⌝ }
+    ensures { λ r. ⌜ (r ≡ true → readBody format slot (now (first .entry)) (now (second .entry)) ≡ done) ⌝ }
+{
+    antenna::second_of(format, slot, first, implied);
+    if slot_fits::fits(format, slot, first) {
+        return is_same(implied, second);
+    }
+    false
+}
+
+// .. with a run for what it implies.
 fn agrees(format: usize, slot: usize, first: &[u8], second: &[u8]) -> bool
     requires { ⌜ (length (now first) ≡ formatOf format .slot) × (length (now second) ≡ formatOf format .slot) ⌝ }
     ensures { λ r. ⌜ (r ≡ true → readBody format slot (now (first .entry)) (now (second .entry)) ≡ done) ⌝ }
 {
-    if slot_fits::fits(format, slot, first) {
-        return first.len() <= first_difference(format, slot, first, second);
+    let n = first.len();
+    if n <= 160 {
+        let mut short = [0u8; 160];
+        return agrees_in(format, slot, first, second, &mut short[0..n]);
     }
-    false
+    let mut long = [0u8; 1280];
+    agrees_in(format, slot, first, second, &mut long[0..n])
 }
 
 fn read_verdict(

@@ -39,8 +39,9 @@ pub(crate) fn verdict(verdict: Verdict) {
 // The key that stands so many keys before the question's last.
 pub(crate) fn key(line: &[u8], before: usize) {
     let k = std::num::wrapping_sub_usize(question::last(line, before), 1);
+    let words = question::piece(line, b'=', k);
     put(b' ');
-    text(question::piece(question::piece(line, b'=', k), b' ', 1));
+    text(question::piece(words, b' ', question::count(words, b' ')));
     put(b'=');
 }
 

@@ -2,6 +2,8 @@
 use crate::answer;
 use run::Verdict;
 use run::or_else;
+use run::shorter;
+ghost use Prim.Native.Nat.{_≤_};
 
 fn tell(verdict: Verdict) {
     if verdict.number != 0 {
@@ -12,24 +14,50 @@ fn tell(verdict: Verdict) {
     }
 }
 
+// An offset in a file that is asked on one line.
+fn small(offset: usize) -> u32
+    ensures { λ r. ⌜ r ≤ 65536 ⌝ }
+{
+    if offset < 65536 { offset as u32 } else { 65536 }
+}
+
+// What stands behind the record at an offset, of this size.
+fn end(rest: &[u8], limit: u32, at: u32, size: usize) -> Verdict
+    requires { ⌜ «at» ≤ 65536 ⌝ }
+{
+    let n = rest.len();
+    let behind = shorter(size, n);
+    job::end(&rest[behind..n], at + small(behind), limit)
+}
+
 // The record at an offset, and what follows it.
-fn record(file: &[u8], at: usize) {
+fn record(rest: &[u8], limit: u32, at: u32)
+    requires { ⌜ «at» ≤ 65536 ⌝ }
+{
     let mut line = [0u8; lines::LINE];
-    let ran = job::run(file, at, &mut line);
+    let ran = job_run::run(rest, at, limit, &mut line);
     let n = ran.length;
     answer::text(&line[..n]);
-    tell(or_else(ran.verdict, job::end(file, ran.next)));
+    tell(or_else(ran.verdict, end(rest, limit, at, ran.size)));
+}
+
+// The first record of a file, where it begins.
+fn first(file: &[u8], limit: u32, next: usize) {
+    let n = file.len();
+    let from = shorter(next, n);
+    let at = small(from);
+    record(&file[from..n], limit, at);
 }
 
 pub(crate) fn print(file: &[u8]) {
     let mut line = [0u8; lines::LINE];
-    let opened = job::open(file, &mut line);
+    let opened = job_open::open(file, &mut line);
     let n = opened.length;
     answer::text(&line[..n]);
     let verdict = opened.verdict;
     if verdict.number != 0 {
         tell(verdict);
     } else {
-        record(file, opened.next);
+        first(file, opened.limit, opened.next);
     }
 }

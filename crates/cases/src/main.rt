@@ -6,11 +6,13 @@
 // numbers, `slip` a slip that has been seen, `done` any other call that is done.
 mod access;
 mod answer;
+mod banks;
 mod digits;
 mod hspdsch;
 mod jobs;
 mod question;
 mod samples;
+mod told;
 mod uplink;
 mod values;
 mod wakes;
@@ -29,6 +31,11 @@ fn ask(call: usize, line: &[u8]) {
         question::DESK_TO_AICH => access::to_aich(line),
         question::DESK_TO_MESSAGE => access::to_message(line),
         question::WAKE_RUN..=question::WAKE_STEP => wakes::ask(call, line),
+        question::BANK_EMPTY..=question::BANK_FETCH => banks::lend(call, line),
+        question::BANK_LENGTH => banks::length(line),
+        question::BANK_ROOM => banks::room(line),
+        question::SLOT_LENGTHS..=question::HSPDSCH_LENGTHS => told::of(call, line),
+        question::COMPRESSED_LENGTHS => told::of_compressed(line),
         _ => answer::text(b" -> no such call"),
     }
 }

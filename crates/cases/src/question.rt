@@ -1,8 +1,8 @@
 // A question: `NAME: CALL key=value key=value`. The value of a key is a run of digits with nothing between them, or whole numbers with commas
 // between them. A run that the call is lent stands there as it is before the call, and the question ends with these runs.
 //
-// A digit in the text is the byte 0 to 9 and not its letter, so that a run of digits is what a call takes, and a job file whose other bytes are letters
-// is its own text.
+// A digit in the text is the byte 0 to 9 and not its letter, so that a run of digits is what a call takes, and a job file or a bank whose other bytes
+// are letters is its own text.
 //
 // Nothing is refused here: what is missing is empty, what is no digit counts as 0, a number too long stops growing, a run too long is cut.
 use run::shorter;
@@ -85,7 +85,35 @@ pub(crate) const WAKE_RUN: usize = 35;
 
 pub(crate) const WAKE_STEP: usize = 36;
 
-pub(crate) const NONE: usize = 37;
+pub(crate) const BANK_EMPTY: usize = 37;
+
+pub(crate) const BANK_STORE: usize = 38;
+
+pub(crate) const BANK_DROP: usize = 39;
+
+pub(crate) const BANK_FETCH: usize = 40;
+
+pub(crate) const BANK_LENGTH: usize = 41;
+
+pub(crate) const BANK_ROOM: usize = 42;
+
+pub(crate) const SLOT_LENGTHS: usize = 43;
+
+pub(crate) const FRAME_LENGTHS: usize = 44;
+
+pub(crate) const DPDCH_LENGTHS: usize = 45;
+
+pub(crate) const DPDCH_FRAME_LENGTHS: usize = 46;
+
+pub(crate) const DPCCH_LENGTHS: usize = 47;
+
+pub(crate) const DPCCH_FRAME_LENGTHS: usize = 48;
+
+pub(crate) const HSPDSCH_LENGTHS: usize = 49;
+
+pub(crate) const COMPRESSED_LENGTHS: usize = 50;
+
+pub(crate) const NONE: usize = 51;
 
 // How many digits and how many whole numbers a run has at most.
 pub(crate) const DIGITS: usize = 300;
@@ -144,7 +172,7 @@ pub(crate) fn call(line: &[u8]) -> usize {
     let mut k = 0;
     while k < NONE {
         let name = piece(
-            b" slot map , antenna map , frame map , P-CCPCH read , PICH map , PICH read , DPDCH map , DPDCH read , DPDCH frame map , DPDCH frame read , DPCCH map , DPCCH frame map , compressed map , STTD digits , slot read , antennas read , P-CCPCH map , DPCCH read , frame read , DPCCH frame read , compressed read , PICH q , AICH map , AICH read , AICH available map , AICH available read , STTD values , AICH combine , sample , job , HS-PDSCH map , HS-PDSCH read , desk serve , desk to AICH , desk to message , wake run , wake step ",
+            b" slot map , antenna map , frame map , P-CCPCH read , PICH map , PICH read , DPDCH map , DPDCH read , DPDCH frame map , DPDCH frame read , DPCCH map , DPCCH frame map , compressed map , STTD digits , slot read , antennas read , P-CCPCH map , DPCCH read , frame read , DPCCH frame read , compressed read , PICH q , AICH map , AICH read , AICH available map , AICH available read , STTD values , AICH combine , sample , job , HS-PDSCH map , HS-PDSCH read , desk serve , desk to AICH , desk to message , wake run , wake step , bank empty , bank store , bank drop , bank fetch , bank length , bank room , slot lengths , frame lengths , DPDCH lengths , DPDCH frame lengths , DPCCH lengths , DPCCH frame lengths , HS-PDSCH lengths , compressed lengths ",
             b',',
             k,
         );

@@ -2,12 +2,13 @@
 use run::Verdict;
 ghost use mathlib.Core.Path.{_≡_};
 ghost use mathlib.Core.Bool.{true};
+ghost use Prim.Native.Nat.{_≤_};
 ghost use lib.ListN.{length};
 ghost use Rattle.run.specs.First.{all, atMost};
 ghost use Rattle.run.specs.Verdicts.{chain};
 ghost use Rattle.dpch.specs.Uplink.{dpcchFormat};
 ghost use Rattle.dpcch.specs.Rule.{frameOf};
-ghost use Rattle.dpcch.specs.Outcome.{slotFields};
+ghost use Rattle.dpcch.specs.Outcome.{slotFields, Put};
 ghost use Rattle.dpcch.specs.Ready.{FrameReady, Room, FieldBits};
 
 // Whether all digits of a run are bits. A frame's runs of fields have fifteen digits or thirty, which are worth a look whose length is a number.
@@ -68,6 +69,19 @@ pub(crate) fn check_fields(format: usize, tfci: &[u8], fbi: &[u8], commands: &[u
     }
 }
 
+// A slot of the frame. The arms stand here once more, beside those of `dpcch_put::put`: so they are the loop's own, and the compiler asks for the format once a frame.
+fn put(format: usize, slot: usize, tpc: u8, tfci: &[u8], fbi: &[u8], out: &mut [u8])
+    requires { ⌜ format ≤ 3 ⌝ }
+    ensures { λ _. ⌜ Put format slot tpc (now (tfci .entry)) (now (fbi .entry)) (now (out .entry)) (now (out .exit)) ⌝ }
+{
+    match format {
+        0 => dpcch_put::put_as(0, slot, tpc, tfci, fbi, out),
+        1 => dpcch_put::put_as(1, slot, tpc, tfci, fbi, out),
+        2 => dpcch_put::put_as(2, slot, tpc, tfci, fbi, out),
+        _ => dpcch_put::put_as(3, slot, tpc, tfci, fbi, out),
+    }
+}
+
 // Each slot into its part of the frame.
 pub(crate) fn write(format: usize, tfci: &[u8], fbi: &[u8], out: &mut [u8], commands: &[u8])
     requires { ⌜ Room format (length (now tfci)) (length (now fbi)) (length (now commands)) (length (now out)) ⌝ }
@@ -85,7 +99,7 @@ pub(crate) fn write(format: usize, tfci: &[u8], fbi: &[u8], out: &mut [u8], comm
         let c = b + m;
         let i = slot * w;
         let j = i + w;
-        dpcch_put::put(
+        put(
             format,
             slot,
             commands[slot],

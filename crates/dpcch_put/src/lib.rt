@@ -3,7 +3,6 @@ use dpch::Dpcch;
 use write::copy;
 use write::fill;
 ghost use mathlib.Core.Path.{_≡_};
-ghost use Prim.Native.Nat.{_≤_};
 ghost use lib.ListN.{length};
 ghost use Rattle.run.specs.Written.{over};
 ghost use Rattle.dpcch.specs.Rule.{slotOf};
@@ -34,12 +33,14 @@ fn write(f: Dpcch, slot: usize, tpc: u8, tfci: &[u8], fbi: &[u8], out: &mut [u8]
     fill(&mut out[c..d], tpc);
 }
 
-// The slot of the fields with no look at their digits, where their lengths are the format's; else `out` as it was. A length that is asked for by itself is known to
-// the compiler from there on.
-fn put_as(format: usize, slot: usize, tpc: u8, tfci: &[u8], fbi: &[u8], out: &mut [u8])
-    requires { ⌜ format ≤ 3 ⌝ }
+// The slot of the fields with no look at their digits, where the table has the format and their lengths are its; else `out` as it was. Where the format is a number, so
+// is the width of each field, and a slot is a few stores. A length that is asked for by itself is known to the compiler from there on.
+pub fn put_as(format: usize, slot: usize, tpc: u8, tfci: &[u8], fbi: &[u8], out: &mut [u8])
     ensures { λ _. ⌜ Put format slot tpc (now (tfci .entry)) (now (fbi .entry)) (now (out .entry)) (now (out .exit)) ⌝ }
 {
+    if 3 < format {
+        return;
+    }
     let f = dpcch::format_of(format);
     if tfci.len() != f.tfci {
         return;
@@ -53,7 +54,7 @@ fn put_as(format: usize, slot: usize, tpc: u8, tfci: &[u8], fbi: &[u8], out: &mu
     write(f, slot, tpc, tfci, fbi, out);
 }
 
-// The same. Where the format is a number, so is the width of each field, and a slot is a few stores.
+// The same, by an arm for each format, which names it.
 pub fn put(format: usize, slot: usize, tpc: u8, tfci: &[u8], fbi: &[u8], out: &mut [u8])
     ensures { λ _. ⌜ Put format slot tpc (now (tfci .entry)) (now (fbi .entry)) (now (out .entry)) (now (out .exit)) ⌝ }
 {

@@ -1,3 +1,4 @@
 pub mod Checks
 pub mod Headed
+pub mod Windows
 pub mod Exact

@@ -8,13 +8,9 @@ use Rattle.run.specs.Verdicts.{refused, done}
 use Rattle.job.specs.declared.fault.Fault.{Fault}
 use Rattle.job.specs.declared.fault.Fault.the-variants.{OverLong, WrongMark, UnknownVersion, UnknownKind, EndsEarly, BytesAfter}
 
--- the most bytes that a file may have
-abbrev pub limit : ℕ
-limit = 65535
-
 -- each case has a number of its own; the place is a byte offset
 unfoldable pub verdictOf : Fault → Verdict
-verdictOf OverLong = refused overLongRefused limit
+verdictOf (OverLong limit) = refused overLongRefused limit
 verdictOf (WrongMark offset) = refused markRefused offset
 verdictOf (UnknownVersion offset) = refused versionRefused offset
 verdictOf (UnknownKind offset) = refused kindRefused offset

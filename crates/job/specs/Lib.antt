@@ -2,4 +2,5 @@ pub mod Faults
 pub mod Rule
 pub mod Outcome
 pub mod Printed
+pub mod Windows
 pub mod Exact

@@ -6,9 +6,9 @@ ghost use mathlib.Core.Path.{_≡_};
 ghost use Rattle.job.specs.Faults.{verdictOf, check};
 
 // Each fault knows its offset in the file.
-pub(crate) enum Fault {
-    // the file has more than 65535 bytes
-    OverLong,
+pub enum Fault {
+    // a byte stands at the limit: the offset is the limit
+    OverLong(usize),
     // a byte of the mark 'SLT' is another
     WrongMark(usize),
     // a byte of the version is another
@@ -28,11 +28,11 @@ fn bad_file(number: usize, place: usize) -> Verdict
 }
 
 // The number and the place that a fault is refused with.
-pub(crate) fn verdict_of(fault: Fault) -> Verdict
+fn verdict_of(fault: Fault) -> Verdict
     ensures { λ r. ⌜ r ≡ verdictOf fault ⌝ }
 {
     match fault {
-        Fault::OverLong => bad_file(refusal::OVER_LONG, 65535),
+        Fault::OverLong(at) => bad_file(refusal::OVER_LONG, at),
         Fault::WrongMark(at) => bad_file(refusal::MARK, at),
         Fault::UnknownVersion(at) => bad_file(refusal::VERSION, at),
         Fault::UnknownKind(at) => bad_file(refusal::KIND, at),
@@ -42,7 +42,7 @@ pub(crate) fn verdict_of(fault: Fault) -> Verdict
 }
 
 // Refused for the fault where the test fails.
-pub(crate) fn check(ok: bool, fault: Fault) -> Verdict
+pub fn check(ok: bool, fault: Fault) -> Verdict
     ensures { λ r. ⌜ r ≡ check ok fault ⌝ }
 {
     let v = verdict_of(fault);

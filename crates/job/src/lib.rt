@@ -1,101 +1,94 @@
-// Job files: docs/RULES.md, 'Job file and program'. A program opens a file, runs its records one after the other, ends it, and tells the first refusal.
-use lines::LINE;
-use lines::Told;
+// Job files: docs/RULES.md, 'Job file and program'. A program opens a file (`job_open`), runs its records one after the other (`job_run`), ends it, and tells the first
+// refusal (`lines::tell`). Each call is lent a window: a part of the file that begins at an offset. Here stand the checks of a file's own bytes behind its header.
+use fault::Fault;
+use fault::check;
+use kinds::Shape;
+use kinds::shape_of;
 use run::Verdict;
 use run::or_else;
-use run::refusal;
-use run::unless;
+use run::shorter;
 ghost use mathlib.Core.Path.{_≡_};
-ghost use Rattle.run.specs.Verdicts.{leaves};
-ghost use Rattle.job.specs.Outcome.{openVerdict, Open, Run, endVerdict};
+ghost use lib.ListN.{getD};
+ghost use Rattle.kinds.specs.Rule.{shapeOf};
+ghost use Rattle.job.specs.Outcome.{within, reach, kindHead, recordHead, endVerdict};
 
-mod fault;
-mod head;
+pub mod fault;
 
-// What `open` answers: the number of records, where the first begins, and how long the line is; 0 where refused.
+// What `job_open::open` answers: how many bytes the file may have, the number of records, where the first begins, and how long the line is; 0 where refused.
 pub struct Opened {
     pub verdict: Verdict,
+    pub limit: u32,
     pub count: usize,
     pub next: usize,
     pub length: usize,
 }
 
-// What `run` answers: where the next record begins, and how long the line is; 0 where refused.
+// What `job_run::run` answers: how many bytes the record has, and how long the line is; 0 where refused.
 pub struct Ran {
     pub verdict: Verdict,
-    pub next: usize,
+    pub size: usize,
     pub length: usize,
 }
 
-fn open_verdict(file: &[u8], line_length: usize) -> Verdict
-    ensures { λ r. ⌜ r ≡ openVerdict (now (file .entry)) «line_length» ⌝ }
+// The byte at an offset, 0 where there is none.
+pub fn byte_at(window: &[u8], at: usize) -> u8
+    ensures { λ r. ⌜ r ≡ getD (now (window .entry)) «at» 0 ⌝ }
 {
-    let room = unless(LINE <= line_length, refusal::LENGTH, 1);
-    or_else(room, head::head_verdict(file))
+    if at < window.len() { window[at] } else { 0 }
 }
 
-// The header's line and the number of records, or the refusal and the line as it was.
-pub fn open(file: &[u8], line: &mut [u8]) -> Opened
-    ensures { λ r. ⌜ Open (now (file .entry)) (now (line .entry)) r (now (line .exit)) ⌝ }
+// Refused where the byte at the limit is among those up to `end` that are looked for, and is there.
+fn within(limit: usize, size: usize, end: usize) -> Verdict
+    ensures { λ r. ⌜ r ≡ within limit size end ⌝ }
 {
-    let verdict = open_verdict(file, line.len());
-    if verdict.number != 0 {
-        return Opened {
-            verdict,
-            count: 0,
-            next: 0,
-            length: 0,
-        };
-    }
-    let count = head::byte_at(file, 5);
-    let told = lines::head(count, line);
-    Opened {
-        verdict,
-        count: count as usize,
-        next: 6,
-        length: told.length,
-    }
+    check(shorter(end, size) <= limit, Fault::OverLong(limit))
 }
 
-// What is answered for a record whose bytes are all there, once its line is told or refused.
-fn answer(told: Told, end: usize) -> Ran
-    ensures { λ r. ⌜ r ≡ record { verdict = told .verdict; next = leaves (told .verdict) end 0; length = told .length } ⌝ }
+// Refused where reading in turn does not come to `end` in a file of `size` bytes.
+fn reach(limit: usize, size: usize, end: usize) -> Verdict
+    ensures { λ r. ⌜ r ≡ reach limit size end ⌝ }
 {
-    let verdict = told.verdict;
-    if verdict.number != 0 {
-        return Ran {
-            verdict,
-            next: 0,
-            length: told.length,
-        };
-    }
-    Ran {
-        verdict,
-        next: end,
-        length: told.length,
-    }
+    or_else(
+        within(limit, size, end),
+        check(end <= size, Fault::EndsEarly(size)),
+    )
 }
 
-// The line of the record at an offset and where the next begins, or the refusal and the line as it was.
-pub fn run(file: &[u8], at: usize, line: &mut [u8]) -> Ran
-    ensures { λ r. ⌜ Run (now (file .entry)) «at» (now (line .entry)) r (now (line .exit)) ⌝ }
+// What the first two bytes of a window say of the record that begins there.
+fn shape_in(window: &[u8]) -> Shape
+    ensures { λ r. ⌜ r ≡ shapeOf (getD (now (window .entry)) 0 0) (getD (now (window .entry)) 1 0) ⌝ }
 {
-    let head = head::run_head(file, at, line.len());
-    if head.number != 0 {
-        return Ran {
-            verdict: head,
-            next: 0,
-            length: 0,
-        };
-    }
-    let end = head::end_of(file, at);
-    let told = lines::record(&file[at..end], line);
-    answer(told, end)
+    shape_of(byte_at(window, 0), byte_at(window, 1))
 }
 
-// Refused where a byte stands at the offset behind the last record.
-pub fn end(file: &[u8], at: usize) -> Verdict
-    ensures { λ r. ⌜ r ≡ endVerdict (now (file .entry)) «at» ⌝ }
+// The checks of a record's head, from its kind on.
+fn kind_head(window: &[u8], offset: u32, limit: u32) -> Verdict
+    ensures { λ r. ⌜ r ≡ kindHead limit offset (now (window .entry)) ⌝ }
 {
-    fault::check(file.len() <= at, fault::Fault::BytesAfter(at))
+    let from = offset as usize;
+    let size = from + window.len();
+    let shape = shape_in(window);
+    let whole = reach(limit as usize, size, from + shape.size);
+    let second = or_else(shape.verdict, whole);
+    let there = or_else(reach(limit as usize, size, from + 2), second);
+    or_else(check(shape.known, Fault::UnknownKind(from)), there)
+}
+
+// Refused where the record at the front of a window is not one whose bytes are all there.
+pub fn record_head(window: &[u8], offset: u32, limit: u32) -> Verdict
+    ensures { λ r. ⌜ r ≡ recordHead limit offset (now (window .entry)) ⌝ }
+{
+    let from = offset as usize;
+    let kind = reach(limit as usize, from + window.len(), from + 1);
+    or_else(kind, kind_head(window, offset, limit))
+}
+
+// Refused where a byte stands behind the last record, at the front of a window.
+pub fn end(window: &[u8], offset: u32, limit: u32) -> Verdict
+    ensures { λ r. ⌜ r ≡ endVerdict limit offset (now (window .entry)) ⌝ }
+{
+    let from = offset as usize;
+    let size = from + window.len();
+    let over = within(limit as usize, size, from + 1);
+    or_else(over, check(size <= from, Fault::BytesAfter(from)))
 }

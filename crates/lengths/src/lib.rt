@@ -92,9 +92,9 @@ pub fn of_dpdch(format: usize, run: usize) -> Length
 pub fn of_dpdch_frame(format: usize, run: usize) -> Length
     ensures { λ r. ⌜ Told (frameHead 6 format []) (dpdchLengths 15 format) run r ⌝ }
 {
-    let n = 15 * dpdch::size_of(format);
+    let frame = 15 * dpdch::size_of(format);
     let head = frame_head(6, format, true, true, true, true);
-    tell(head, 2, run, n, n, 0, 0)
+    tell(head, 2, run, frame, frame, 0, 0)
 }
 
 // A slot of the uplink DPCCH.

@@ -89,7 +89,7 @@ pub prints-once : {v : Verdict} {text line x y : List ℕ} {m n : ℕ} → Print
 prints-once p q = (one-outcome (p .length-is) (q .length-is), one-outcome (p .line-is) (q .line-is))
 
 pub head-once : HeadOnce
-head-once count line a b x y p q =
+head-once version count line a b x y p q =
     let s = prints-once (p .prints) (q .prints) in
     (λ i. record { verdict = one-outcome (p .verdict-is) (q .verdict-is) i; length = s .0 i }, s .1)
 

@@ -25,7 +25,7 @@ DecimalReads = (n : ℕ) → Numeral n
 
 -- each promise allows one outcome
 abbrev pub HeadOnce : Type 0
-HeadOnce = (count : ℕ) (line : List ℕ) (a b : Told) (x y : List ℕ) → Head count line a x → Head count line b y → (a ≡ b) × (x ≡ y)
+HeadOnce = (version count : ℕ) (line : List ℕ) (a b : Told) (x y : List ℕ) → Head version count line a x → Head version count line b y → (a ≡ b) × (x ≡ y)
 
 abbrev pub RecordOnce : Type 0
 RecordOnce = (r line : List ℕ) (a b : Told) (x y : List ℕ) → Record r line a x → Record r line b y → (a ≡ b) × (x ≡ y)

@@ -49,9 +49,9 @@ pub record Writes (r line : List ℕ) (answer : Told) (line-after : List ℕ) : 
   pub prints : Prints (mapperVerdict r) (recordLine r) line (answer .length) line-after
 
 -- head: 3 (line); what a header prints
-pub record Head (count : ℕ) (line : List ℕ) (answer : Told) (line-after : List ℕ) : Type 0 where
+pub record Head (version count : ℕ) (line : List ℕ) (answer : Told) (line-after : List ℕ) : Type 0 where
   pub verdict-is : answer .verdict ≡ room 0 (length line)
-  pub prints : Prints (room 0 (length line)) (headLine count) line (answer .length) line-after
+  pub prints : Prints (room 0 (length line)) (headLine version count) line (answer .length) line-after
 
 -- record: 3 (record, line), for bytes that are no whole record, then for a line with no room; then the mapper's checks
 unfoldable pub lineVerdict : List ℕ → ℕ → Verdict

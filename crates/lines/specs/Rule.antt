@@ -15,10 +15,6 @@ use Rattle.aich.specs.Rule.{valuesOf}
 use Rattle.kinds.specs.Rule.{byKind}
 use Rattle.lines.specs.Text.{space, newline, number, spaced, row}
 
--- the version of the file that is printed
-abbrev pub version : ℕ
-version = 1
-
 -- 0, 1 and 2 stand for 0, +1 and -1; any other byte stands for itself, which is a number that the AICH refuses
 unfoldable pub indicatorOf : ℕ → ℤ
 indicatorOf b = cond (eqb b 2) (negsuc 0) (pos b)
@@ -62,8 +58,8 @@ abbrev pub refusedWord : List ℕ
 refusedWord = 114 ∷ 101 ∷ 102 ∷ 117 ∷ 115 ∷ 101 ∷ 100 ∷ space ∷ []
 
 -- the first line: mark, version, count
-unfoldable pub headLine : ℕ → List ℕ
-headLine count = markWord ++ number version space ++ number count newline
+unfoldable pub headLine : ℕ → ℕ → List ℕ
+headLine version count = markWord ++ number version space ++ number count newline
 
 -- the kind and the 32 values, with spaces
 unfoldable pub aichLine : List ℤ → List ℕ

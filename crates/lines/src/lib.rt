@@ -28,12 +28,13 @@ pub struct Told {
 }
 
 // The header's.
-fn head_line(count: u8, line: &mut [u8]) -> usize
+fn head_line(version: u8, count: u16, line: &mut [u8]) -> usize
     requires { ⌜ Roomy (now line) ⌝ }
-    ensures { λ r. ⌜ Wrote 0 (headLine count) (now (line .entry)) r (now (line .exit)) ⌝ }
+    ensures { λ r. ⌜ Wrote 0 (headLine version count) (now (line .entry)) r (now (line .exit)) ⌝ }
 {
-    let mark = text::word(b"SLT 1 ", line, 0);
-    text::number(count as usize, b'\n', line, mark)
+    let mark = text::word(b"SLT ", line, 0);
+    let known = text::number(version as usize, b' ', line, mark);
+    text::number(count as usize, b'\n', line, known)
 }
 
 // A refusal's.
@@ -202,15 +203,15 @@ pub fn record(r: &[u8], line: &mut [u8]) -> Told
     record_line(r, line)
 }
 
-// The line of a header with this number of records.
-pub fn head(count: u8, line: &mut [u8]) -> Told
-    ensures { λ r. ⌜ Head count (now (line .entry)) r (now (line .exit)) ⌝ }
+// The line of a header with this version and this number of records.
+pub fn head(version: u8, count: u16, line: &mut [u8]) -> Told
+    ensures { λ r. ⌜ Head version count (now (line .entry)) r (now (line .exit)) ⌝ }
 {
     let verdict = unless(LINE <= line.len(), refusal::LENGTH, 0);
     if verdict.number != 0 {
         return Told { verdict, length: 0 };
     }
-    let length = head_line(count, line);
+    let length = head_line(version, count, line);
     Told { verdict, length }
 }
 

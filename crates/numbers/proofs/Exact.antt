@@ -16,6 +16,7 @@ use Rattle.slt_aich.proofs.Exact.{aich-tells}
 use Rattle.slt_desk.proofs.Exact.{desk-tells}
 use Rattle.slt_combiner.proofs.Exact.{combiner-tells}
 use Rattle.slt_sample.proofs.Exact.{sample-tells}
+use Rattle.slt_bank.proofs.Exact.{bank-tells}
 use Rattle.slt_lengths.proofs.Exact.{lengths-tell}
 use Rattle.numbers.specs.Exact.{Numbers}
 use Rattle.numbers.proofs.Laws.{told}
@@ -59,6 +60,12 @@ numbers =
       desk-to-aich = λ timing answer p. told _ (desk-tells .to-aich timing answer p) (of.desk-timing _);
       desk-to-message = λ timing answer p. told _ (desk-tells .to-message timing answer p) (of.desk-timing _);
       aich-combine = λ h1 h2 received results answer after p. told _ (combiner-tells h1 h2 received results answer after p) (of.aich-combine _ _ _ _);
+      bank-empty = λ bank answer after p. told _ (bank-tells .empty bank answer after p) (of.bank-empty _);
+      bank-store = λ bank number slot answer after p. told _ (bank-tells .store bank number slot answer after p) (of.bank-store _ _ _);
+      bank-fetch = λ bank number out answer after p. told _ (bank-tells .fetch bank number out answer after p) (of.bank-fetch _ _ _);
+      bank-drop = λ bank number answer after p. told _ (bank-tells .drop bank number answer after p) (of.bank-drop _ _);
+      bank-length = λ bank number answer p. told _ (bank-tells .length-of bank number answer p) (of.bank-drop _ _);
+      bank-room = λ bank answer p. told _ (bank-tells .room bank answer p) (of.bank-room _);
       sample = λ i q setting antenna answer p. told _ (sample-tells i q setting antenna answer p) (of.sampled _ _ _ _);
       slot-lengths = λ format run answer p. told _ (lengths-tell .of-slot format run answer p) (of.told-after _ (of.head-alone 16 format) _ run);
       frame-lengths = λ format run answer p. told _ (lengths-tell .of-frame format run answer p) (of.told-after _ (of.head-alone 16 format) _ run);

@@ -34,6 +34,8 @@ use Rattle.combiner.specs.Outcome as combiner
 use Rattle.sample.specs.declared.Setting.{Setting}
 use Rattle.sample.specs.declared.Setting.the-variants.{Off, Shared, Each}
 use Rattle.sample.specs.Outcome as sample
+use Rattle.bank.specs.Plain as plain
+use Rattle.bank.specs.Outcome as bank
 use Rattle.lengths.specs.Outcome.{toldVerdict}
 use Rattle.numbers.specs.Exact.{listed}
 use Rattle.numbers.proofs.Laws.{Has, Among, none, or-else-among, unless-among, check-among, each-among, lengths-among, chain-among, frame-head-among, slot-head-among}
@@ -234,6 +236,26 @@ desk-timing timing = unless-among (11 ∷ []) _ 11 1 refl
 pub aich-combine : (h1 h2 : Complex) (received : List ℤ) (n : ℕ) → Among (3 ∷ 11 ∷ 12 ∷ []) (combiner.combineVerdict h1 h2 received n)
 unfolding listed combiner.combineVerdict combiner.combineHead combiner.combineBody
 aich-combine h1 h2 received n = or-else-among (3 ∷ 11 ∷ 12 ∷ []) _ _ (check-among (3 ∷ 11 ∷ 12 ∷ []) _ 3 0 _ refl (unless-among (3 ∷ 11 ∷ 12 ∷ []) _ 3 1 refl)) (check-among (3 ∷ 11 ∷ 12 ∷ []) _ 11 0 _ refl (check-among (3 ∷ 11 ∷ 12 ∷ []) _ 11 1 _ refl (check-among (3 ∷ 11 ∷ 12 ∷ []) _ 11 2 _ refl (check-among (3 ∷ 11 ∷ 12 ∷ []) _ 11 3 _ refl (or-else-among (3 ∷ 11 ∷ 12 ∷ []) _ _ (each-among (3 ∷ 11 ∷ 12 ∷ []) 4 11 _ _ refl) (unless-among (3 ∷ 11 ∷ 12 ∷ []) _ 12 0 refl))))))
+
+pub bank-empty : (n : ℕ) → Among (28 ∷ []) (bank.emptyVerdict n)
+unfolding listed bank.emptyVerdict
+bank-empty n = unless-among (28 ∷ []) _ 28 0 refl
+
+pub bank-store : (bytes : List ℕ) (number : ℕ) (digits : List ℕ) → Among (3 ∷ 4 ∷ 11 ∷ 28 ∷ 30 ∷ 31 ∷ []) (bank.storeVerdict bytes number digits)
+unfolding listed bank.storeVerdict plain.storePlain
+bank-store bytes number digits = check-among (3 ∷ 4 ∷ 11 ∷ 28 ∷ 30 ∷ 31 ∷ []) _ 28 0 _ refl (check-among (3 ∷ 4 ∷ 11 ∷ 28 ∷ 30 ∷ 31 ∷ []) _ 11 0 _ refl (check-among (3 ∷ 4 ∷ 11 ∷ 28 ∷ 30 ∷ 31 ∷ []) _ 3 0 _ refl (or-else-among (3 ∷ 4 ∷ 11 ∷ 28 ∷ 30 ∷ 31 ∷ []) _ _ (each-among (3 ∷ 4 ∷ 11 ∷ 28 ∷ 30 ∷ 31 ∷ []) 0 4 _ _ refl) (check-among (3 ∷ 4 ∷ 11 ∷ 28 ∷ 30 ∷ 31 ∷ []) _ 30 0 _ refl (unless-among (3 ∷ 4 ∷ 11 ∷ 28 ∷ 30 ∷ 31 ∷ []) _ 31 0 refl)))))
+
+pub bank-fetch : (bytes : List ℕ) (number n : ℕ) → Among (3 ∷ 11 ∷ 28 ∷ 29 ∷ []) (bank.fetchVerdict bytes number n)
+unfolding listed bank.fetchVerdict plain.fetchPlain plain.dropPlain
+bank-fetch bytes number n = check-among (3 ∷ 11 ∷ 28 ∷ 29 ∷ []) _ 28 0 _ refl (or-else-among (3 ∷ 11 ∷ 28 ∷ 29 ∷ []) _ _ (check-among (3 ∷ 11 ∷ 28 ∷ 29 ∷ []) _ 11 0 _ refl (unless-among (3 ∷ 11 ∷ 28 ∷ 29 ∷ []) _ 29 0 refl)) (unless-among (3 ∷ 11 ∷ 28 ∷ 29 ∷ []) _ 3 0 refl))
+
+pub bank-drop : (bytes : List ℕ) (number : ℕ) → Among (11 ∷ 28 ∷ 29 ∷ []) (bank.dropVerdict bytes number)
+unfolding listed bank.dropVerdict plain.dropPlain
+bank-drop bytes number = check-among (11 ∷ 28 ∷ 29 ∷ []) _ 28 0 _ refl (check-among (11 ∷ 28 ∷ 29 ∷ []) _ 11 0 _ refl (unless-among (11 ∷ 28 ∷ 29 ∷ []) _ 29 0 refl))
+
+pub bank-room : (bytes : List ℕ) → Among (28 ∷ []) (bank.roomVerdict bytes)
+unfolding listed bank.roomVerdict
+bank-room bytes = unless-among (28 ∷ []) _ 28 0 refl
 
 levels : (setting : Setting) → Among (11 ∷ []) (sample.levelsVerdict setting)
 unfolding listed sample.levelsVerdict

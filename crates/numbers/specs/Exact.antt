@@ -32,6 +32,7 @@ use Rattle.slt_aich.specs.Outcome.{AichMap, AichRead, AichMapAvailable, AichRea
 use Rattle.slt_desk.specs.Outcome.{DeskServe, DeskToAich, DeskToMessage}
 use Rattle.slt_combiner.specs.Outcome.{AichCombine}
 use Rattle.slt_sample.specs.Outcome.{SampleAt}
+use Rattle.slt_bank.specs.Outcome.{BankEmpty, BankStore, BankFetch, BankDrop, BankLength, BankRoom}
 use Rattle.slt_lengths.specs.Outcome.{LengthTold}
 
 -- whether a number is one of a list
@@ -79,6 +80,12 @@ pub record Numbers : Type 0 where
   pub desk-to-aich : (timing answer : ℕ) → DeskToAich timing answer → Answers (11 ∷ []) answer
   pub desk-to-message : (timing answer : ℕ) → DeskToMessage timing answer → Answers (11 ∷ []) answer
   pub aich-combine : (h1 h2 : Complex) (received results : List ℤ) (answer : ℕ) (after : List ℤ) → AichCombine h1 h2 received results answer after → Answers (3 ∷ 11 ∷ 12 ∷ []) answer
+  pub bank-empty : (bank : List ℕ) (answer : ℕ) (after : List ℕ) → BankEmpty bank answer after → Answers (28 ∷ []) answer
+  pub bank-store : (bank : List ℕ) (number : ℕ) (slot : List ℕ) (answer : ℕ) (after : List ℕ) → BankStore bank number slot answer after → Answers (3 ∷ 4 ∷ 11 ∷ 28 ∷ 30 ∷ 31 ∷ []) answer
+  pub bank-fetch : (bank : List ℕ) (number : ℕ) (out : List ℕ) (answer : ℕ) (after : List ℕ) → BankFetch bank number out answer after → Answers (3 ∷ 11 ∷ 28 ∷ 29 ∷ []) answer
+  pub bank-drop : (bank : List ℕ) (number answer : ℕ) (after : List ℕ) → BankDrop bank number answer after → Answers (11 ∷ 28 ∷ 29 ∷ []) answer
+  pub bank-length : (bank : List ℕ) (number answer : ℕ) → BankLength bank number answer → Answers (11 ∷ 28 ∷ 29 ∷ []) answer
+  pub bank-room : (bank : List ℕ) (answer : ℕ) → BankRoom bank answer → Answers (28 ∷ []) answer
   pub sample : (i q : ℤ) (setting : Setting) (antenna : ℕ) (answer : SltSample) → SampleAt i q setting antenna answer → Answers (11 ∷ []) (answer .answer)
   pub slot-lengths : (format run answer : ℕ) → LengthTold (frameHead 16 format []) (slotLengths format) run answer → Answers (1 ∷ 11 ∷ []) answer
   pub frame-lengths : (format run answer : ℕ) → LengthTold (frameHead 16 format []) (frameLengths format) run answer → Answers (1 ∷ 11 ∷ []) answer

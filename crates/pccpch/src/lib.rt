@@ -42,14 +42,24 @@ fn code(digits: &[u8], out: &mut [u8])
     out[269] = digits[269];
 }
 
-// Both frames. Antenna 2's digits come first: they are in memory when they are asked for.
+// The frame of the digits, where a run is lent that is one.
+fn write_first(digits: &[u8], antenna: &mut [u8])
+    requires { ⌜ length (now digits) ≡ 270 ⌝ }
+    ensures { λ _. ⌜ (length (now (antenna .entry)) ≡ 300 → now (antenna .exit) ≡ frameOf (now (digits .entry))) ⌝ }
+{
+    if antenna.len() == 300 {
+        write_frame(digits, antenna);
+    }
+}
+
+// Both frames, or antenna 2's alone: it is one function for both, so that the compiler keeps it in one piece. Antenna 2's digits come first: they are in memory when they are asked for.
 fn write_both(data: &[u8], antenna1: &mut [u8], antenna2: &mut [u8])
-    requires { ⌜ (length (now «data») ≡ 270) × (length (now antenna1) ≡ 300) × (length (now antenna2) ≡ 300) ⌝ }
-    ensures { λ _. ⌜ (now (antenna1 .exit) ≡ frameOf (now («data» .entry))) × (now (antenna2 .exit) ≡ secondOf (now («data» .entry))) ⌝ }
+    requires { ⌜ (length (now «data») ≡ 270) × (length (now antenna2) ≡ 300) ⌝ }
+    ensures { λ _. ⌜ (length (now (antenna1 .entry)) ≡ 300 → now (antenna1 .exit) ≡ frameOf (now («data» .entry))) × (now (antenna2 .exit) ≡ secondOf (now («data» .entry))) ⌝ }
 {
     let mut coded = [0u8; 270];
     code(data, &mut coded);
-    write_frame(data, antenna1);
+    write_first(data, antenna1);
     write_frame(&coded, antenna2);
 }
 
@@ -57,9 +67,9 @@ fn write_both(data: &[u8], antenna1: &mut [u8], antenna2: &mut [u8])
 pub fn second_of(digits: [u8; 270]) -> [u8; 300]
     ensures { λ r. ⌜ r ≡ secondOf digits ⌝ }
 {
-    let mut first = [DTX; 300];
+    let mut none = [DTX; 1];
     let mut second = [DTX; 300];
-    write_both(&digits, &mut first, &mut second);
+    write_both(&digits, &mut none, &mut second);
     second
 }
 

@@ -1,29 +1,30 @@
 -- Laws of the reader: its scan of antenna 1 slot by slot, antenna 2 against what antenna 1 implies, and the data slot after slot.
 -- Assumes nothing.
 use mathlib.Core.Path.{_≡_, refl, sym, ap, _∙_, subst, subst₂}
-use mathlib.Core.Bool.{not}
+use mathlib.Core.Bool.{Bool, true, false, not, _&&_}
 use mathlib.Core.List.{List}
-use Prim.Native.Nat.{ℕ, zero, suc, _+_, _-_, _*_, _%_, _≤_, _<_, min}
+use Prim.Native.Nat.{ℕ, zero, suc, _+_, _-_, _*_, _/_, _%_, _≤_, _<_, min}
 use native.Mathlib.Omega.{arith}
 use borrow.Rule.Slice.PartMut.{putMid, midOf}
-use borrow.Author.Tests.{leb-true, lt-ltb, le-ltb}
+use borrow.Author.Tests.{leb-true, lt-ltb, le-ltb, eqb-true, eqb-false, not-false}
 use lib.Dec.{eqb, leb}
 use lib.ListN.{length, getD, take, drop}
-use Rattle.run.specs.declared.Verdict.{Verdict}
+use lib.Seq.{ext-getD}
 use Rattle.run.specs.Digits.{dtx}
-use Rattle.run.specs.First.{firstBad, Every, atMost, isAt, agree}
+use Rattle.run.specs.First.{firstBad, all, Every, atMost, isAt, agree}
 use Rattle.run.specs.Verdicts.{done}
 use Rattle.run.specs.Written.{over}
 use Rattle.run.proofs.Chain.{leaves-done, number-0}
 use Rattle.run.proofs.First.{first-in-part, part-passes}
 use Rattle.run.proofs.Front.{Front}
+use Rattle.run.proofs.Passing.{front-every}
 use Rattle.run.proofs.Lent.{part-width, part-length, part-at, same-part, front-copied}
 use Rattle.pccpch.specs.Rule.{place, frameOf, secondOf, dataIn}
-use Rattle.pccpch.specs.Outcome.{mapVerdict, Map, rightKind, readVerdict, Read}
-use Rattle.pccpch.proofs.Checks.{taken}
+use Rattle.pccpch.specs.Outcome.{rightKind, readVerdict, Read}
 use Rattle.pccpch.proofs.Exact.{mapped-accepted}
-use Rattle.pccpch.proofs.Laws.{frame-length, second-length, data-length, data-at}
+use Rattle.pccpch.proofs.Laws.{digitOf, digit-within, place-digit, split, frame-length, frame-silent, frame-digit, second-length, data-length, data-at}
 use Rattle.scan.proofs.Laws.{found-same}
+use Rattle.pccpch_read.specs.Method.{beginsAt}
 
 -- of a digit: at most 1 is as much as not DTX
 bit-kind : (d : ℕ) → d ≤ 2 → leb d 1 ≡ not (eqb d 2)
@@ -87,20 +88,50 @@ differs antenna1 antenna2 digits implied r long e f found =
     let shorter : min (length implied) (length antenna2) ≡ 300 = omega arith in
     found ∙ rw shorter (ap (λ (t : List ℕ). firstBad (agree t antenna2) 300) is)
 
--- frames in which no place differs from what `map` gives are accepted
-pub given-accepted : (antenna1 antenna2 : List ℕ) {digits f₀ s₀ first second : List ℕ} {v : Verdict} {i j : ℕ} → Map digits f₀ s₀ v first second → v .number ≡ 0
-    → length f₀ ≡ 300 → length s₀ ≡ 300 → length antenna1 ≡ 300 → length antenna2 ≡ 300
-    → i ≡ firstBad (agree first antenna1) (min (length first) (length antenna1)) → 300 ≤ i
-    → j ≡ firstBad (agree second antenna2) (min (length second) (length antenna2)) → 300 ≤ j
-    → readVerdict antenna1 antenna2 270 ≡ done
-given-accepted antenna1 antenna2 {digits} {f₀} {s₀} {first} {second} m h n1 n2 l1 l2 e1 p1 e2 p2 =
-    let z : mapVerdict digits (length f₀) (length s₀) .number ≡ 0 = rw (m .verdict-is) at h in
-    let is1 : first ≡ frameOf digits = m .antenna1-is ∙ leaves-done _ _ _ z in
-    let is2 : second ≡ secondOf digits = m .antenna2-is ∙ leaves-done _ _ _ z in
-    let same1 = found-same _ _ 300 _ (ap length is1 ∙ frame-length digits) l1 e1 p1 in
-    let same2 = found-same _ _ 300 _ (ap length is2 ∙ second-length digits) l2 e2 p2 in
-    subst₂ (λ (f g : List ℕ). readVerdict f g 270 ≡ done) (sym is1 ∙ same1) (sym is2 ∙ same2)
-    (mapped-accepted digits (taken digits 300 300 (rw (n1, n2) at z)))
+-- a frame of antenna 1 whose slots begin with DTX is the frame of its data
+module _ (antenna1 : List ℕ) (long : length antenna1 ≡ 300) (begins : Every (beginsAt antenna1) 15) where
+  begins-with : (s : ℕ) → s < 15 → (getD antenna1 (20 * s) 0 ≡ dtx) × (getD antenna1 (20 * s + 1) 0 ≡ dtx)
+  begins-with s h = both (eqb (getD antenna1 (20 * s) 0) dtx) (eqb (getD antenna1 (20 * s + 1) 0) dtx) refl refl (begins s h)
+    where
+      both : (a b : Bool) → eqb (getD antenna1 (20 * s) 0) dtx ≡ a → eqb (getD antenna1 (20 * s + 1) 0) dtx ≡ b → (a && b) ≡ true
+          → (getD antenna1 (20 * s) 0 ≡ dtx) × (getD antenna1 (20 * s + 1) 0 ≡ dtx)
+      both true true e f h = (eqb-true _ _ e, eqb-true _ _ f)
+      both true false e f h = absurd (let z : _≡_ {A = ℕ} 0 1 = cc in omega arith)
+      both false b e f h = absurd (let z : _≡_ {A = ℕ} 0 1 = cc in omega arith)
+
+  quiet : (k : ℕ) → k < 300 → k % 20 < 2 → getD antenna1 k 0 ≡ dtx
+  quiet k h l = side (eqb (k % 20) 0) refl
+    where
+      two : (getD antenna1 (20 * (k / 20)) 0 ≡ dtx) × (getD antenna1 (20 * (k / 20) + 1) 0 ≡ dtx)
+      two = begins-with (k / 20) (omega arith)
+
+      side : (b : Bool) → eqb (k % 20) 0 ≡ b → getD antenna1 k 0 ≡ dtx
+      side true e = let z : k % 20 ≡ 0 = eqb-true _ _ e in let is : 20 * (k / 20) ≡ k = omega arith in rw is at (two .0)
+      side false e = let z : k % 20 ≡ 0 → ⊥ = eqb-false _ _ e in let is : 20 * (k / 20) + 1 ≡ k = omega arith in rw is at (two .1)
+
+  pub own-frame : frameOf (dataIn antenna1) ≡ antenna1
+  own-frame =
+      let n = frame-length (dataIn antenna1) in
+      ext-getD 0 (frameOf (dataIn antenna1)) antenna1 (n ∙ sym long) (λ k h. at-place k (rw n at h))
+    where
+      at-place : (k : ℕ) → k < 300 → getD (frameOf (dataIn antenna1)) k 0 ≡ getD antenna1 k 0
+      at-place k h =
+          split k
+          (λ l. frame-silent (dataIn antenna1) k h l ∙ sym (quiet k h l))
+          (λ l.
+          frame-digit (dataIn antenna1) k h l
+          ∙ data-at antenna1 (digitOf k) (digit-within k h l)
+          ∙ ap (λ (n : ℕ). getD antenna1 n 0) (place-digit k l))
+
+-- .. and where its data are bits, and antenna 2's frame is what they give, both are accepted
+pub given-accepted : (antenna1 antenna2 : List ℕ) {digits implied : List ℕ} {good : Bool} {j : ℕ} → length antenna1 ≡ 300 → length antenna2 ≡ 300 → digits ≡ dataIn antenna1
+    → implied ≡ secondOf digits → Every (beginsAt antenna1) 15 → good ≡ (leb 270 (length digits) && all 270 (atMost 1 digits)) → not good ≡ false
+    → j ≡ firstBad (agree implied antenna2) (min (length implied) (length antenna2)) → 300 ≤ j → readVerdict antenna1 antenna2 270 ≡ done
+given-accepted antenna1 antenna2 {digits} {implied} {good} l1 l2 e is begins told pass found h =
+    let n : length digits ≡ 270 = ap length e ∙ data-length antenna1 in
+    let same = found-same _ _ 300 _ (ap length is ∙ second-length digits) l2 found h in
+    subst₂ (λ (f g : List ℕ). readVerdict f g 270 ≡ done) (ap frameOf e ∙ own-frame antenna1 l1 begins) (sym is ∙ same)
+    (mapped-accepted digits (record { data-ok = n; first-ok = refl; second-ok = refl; bits-ok = front-every (length digits) 270 (atMost 1 digits) n told (not-false good pass) }))
 
 -- what is given is read at once
 pub given-read : {antenna1 antenna2 digits after : List ℕ} → length digits ≡ 270 → (readVerdict antenna1 antenna2 270 ≡ done) × (after ≡ dataIn antenna1)

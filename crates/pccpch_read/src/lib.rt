@@ -6,12 +6,14 @@ use run::or_else;
 use run::refusal;
 use run::unless;
 ghost use mathlib.Core.Path.{_≡_};
-ghost use mathlib.Core.Bool.{true, false};
+ghost use mathlib.Core.Bool.{true, false, _&&_};
+ghost use lib.Dec.{eqb};
 ghost use lib.ListN.{length};
-ghost use Rattle.run.specs.First.{firstBad, Every, atMost, agree};
+ghost use Rattle.run.specs.First.{firstBad, all, Every, atMost, agree};
 ghost use Rattle.run.specs.Verdicts.{done};
 ghost use Rattle.pccpch.specs.Rule.{secondOf, dataIn};
 ghost use Rattle.pccpch.specs.Outcome.{readHead, rightKind, readBody, readVerdict, Read};
+ghost use Rattle.pccpch_read.specs.Method.{beginsAt};
 
 fn read_head(antenna1: &[u8], antenna2: &[u8], data_length: usize) -> Verdict
     ensures { λ r. ⌜ r ≡ readHead (now (antenna1 .entry)) (now (antenna2 .entry)) «data_length» ⌝ }
@@ -101,21 +103,42 @@ fn lengths_fit(length1: usize, length2: usize, data_length: usize) -> bool
     data_length == 270
 }
 
-// Whether the data of antenna 1 gives both frames. It is mapped again and the frames are compared, many digits at a time; no check can refuse what is given.
-fn is_given(antenna1: &[u8], antenna2: &[u8], data: &[u8]) -> bool
-    requires { ⌜ (length (now antenna1) ≡ 300) × (length (now antenna2) ≡ 300) ⌝ }
+// Both digits are DTX.
+fn both_dtx(a: u8, b: u8) -> bool
+    ensures { λ r. ⌜ r ≡ (eqb a 2 && eqb b 2) ⌝ }
+{
+    if a == DTX { b == DTX } else { false }
+}
+
+// Whether each slot begins with two digits of DTX.
+fn begins_dtx(frame: &[u8]) -> bool
+    requires { ⌜ length (now frame) ≡ 300 ⌝ }
+    ensures { λ r. ⌜ r ≡ all 15 (beginsAt (now (frame .entry))) ⌝ }
+{
+    let mut good = true;
+    let mut slot = 0;
+    while slot < 15 {
+        if !both_dtx(frame[20 * slot], frame[20 * slot + 1]) {
+            good = false;
+        }
+        slot += 1;
+    }
+    good
+}
+
+// Whether the data of antenna 1 gives both frames: then no check can refuse. Antenna 2's frame is made first, and compared last, many digits at a time: it is in memory by then.
+fn is_given(antenna1: &[u8], antenna2: &[u8], digits: [u8; 270]) -> bool
+    requires { ⌜ (length (now antenna1) ≡ 300) × (length (now antenna2) ≡ 300) × (digits ≡ dataIn (now antenna1)) ⌝ }
     ensures { λ r. ⌜ (r ≡ true → readVerdict (now (antenna1 .entry)) (now (antenna2 .entry)) 270 ≡ done) ⌝ }
 {
-    let mut first = [DTX; 300];
-    let mut second = [DTX; 300];
-    let verdict = pccpch::map(data, &mut first, &mut second);
-    if verdict.number != 0 {
+    let implied = pccpch::second_of(digits);
+    if !begins_dtx(antenna1) {
         return false;
     }
-    if scan::first_diff(&first, antenna1) < 300 {
+    if !scan::all_at_most(&digits, 1, 270) {
         return false;
     }
-    300 <= scan::first_diff(&second, antenna2)
+    300 <= scan::first_diff(&implied, antenna2)
 }
 
 // The data of antenna 1, where it gives both frames.
@@ -125,7 +148,7 @@ fn take_given(antenna1: &[u8], antenna2: &[u8], data: &mut [u8]) -> bool
 {
     let mut found = [0u8; 270];
     take_data(antenna1, &mut found);
-    if is_given(antenna1, antenna2, &found) {
+    if is_given(antenna1, antenna2, found) {
         write::copy(data, &found);
         return true;
     }

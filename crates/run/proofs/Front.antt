@@ -37,15 +37,20 @@ module _ {A : Type 0} where
       ap length (f .is) ∙ simp (length-append, length-take, length-drop) (omega arith)
 
   -- behind the front is what was there
-  pub front-next : {t d₀ d : List A} {a : ℕ} (z : A) → Front t d₀ d a → a < length d₀ → getD d a z ≡ getD d₀ a z
-  front-next {t} {d₀} {d} {a} z f h =
+  pub front-behind : {t d₀ d : List A} {a : ℕ} (z : A) → Front t d₀ d a → (k : ℕ) → a ≤ k → getD d k z ≡ getD d₀ k z
+  front-behind {t} {d₀} {d} {a} z f k h =
       let s = f .sized in
+      let w = f .within in
       let n : length (take a t) ≡ a = length-take-le a t (omega arith) in
-      let end : a + 0 ≡ a = omega arith in
-      ap (λ (l : List A). getD l a z) (f .is)
-      ∙ rw (n, end) at (getD-append-add (take a t) (drop a d₀) 0 z)
-      ∙ getD-drop a d₀ 0 z
-      ∙ ap (λ (i : ℕ). getD d₀ i z) end
+      let e : a + (k - a) ≡ k = omega arith in
+      ap (λ (l : List A). getD l k z) (f .is)
+      ∙ ap (λ (j : ℕ). getD (take a t ++ drop a d₀) j z) (sym e)
+      ∙ rw n at (getD-append-add (take a t) (drop a d₀) (k - a) z)
+      ∙ getD-drop a d₀ (k - a) z
+      ∙ ap (λ (j : ℕ). getD d₀ j z) e
+
+  pub front-next : {t d₀ d : List A} {a : ℕ} (z : A) → Front t d₀ d a → a < length d₀ → getD d a z ≡ getD d₀ a z
+  front-next {t} {d₀} {d} {a} z f h = front-behind z f a (omega arith)
 
   -- one entry more
   pub front-store : {t d₀ d : List A} {i : ℕ} {v : A} (z : A) → Front t d₀ d i → i < length d → v ≡ getD t i z → Front t d₀ (set d i v) (i + 1)

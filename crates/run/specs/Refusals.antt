@@ -82,6 +82,22 @@ signatureRefused = 26
 abbrev pub gapRefused : ℕ
 gapRefused = 27
 
+-- 28: buffer of a bank under 8 or over 65536 bytes, or bytes that are no bank
+abbrev pub bankRefused : ℕ
+bankRefused = 28
+
+-- 29: no slot with the number in the bank
+abbrev pub absentRefused : ℕ
+absentRefused = 29
+
+-- 30: a slot with the number is already in the bank
+abbrev pub presentRefused : ℕ
+presentRefused = 30
+
+-- 31: no room in the bank
+abbrev pub roomRefused : ℕ
+roomRefused = 31
+
 -- 32: a count of frames that stands at 4294967295
 abbrev pub countRefused : ℕ
 countRefused = 32

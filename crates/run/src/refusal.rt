@@ -40,5 +40,13 @@ pub const BYTES_AFTER: usize = 25;
 pub const SIGNATURE: usize = 26;
 // 27: a gap that leaves too few or too many slots of a compressed frame, or runs past slot 14.
 pub const GAP: usize = 27;
+// 28: buffer of a bank under 8 or over 65536 bytes, or bytes that are no bank.
+pub const BANK: usize = 28;
+// 29: no slot with the number in the bank.
+pub const ABSENT: usize = 29;
+// 30: a slot with the number is already in the bank.
+pub const PRESENT: usize = 30;
+// 31: no room in the bank.
+pub const ROOM: usize = 31;
 // 32: a count of frames that stands at 4294967295.
 pub const COUNT: usize = 32;

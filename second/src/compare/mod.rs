@@ -5,6 +5,7 @@
 pub mod aich;
 pub mod aich_available;
 pub mod antenna;
+pub mod bank;
 pub mod combiner;
 pub mod compressed;
 pub mod desk;
@@ -13,6 +14,7 @@ pub mod dpch;
 pub mod dpdch;
 pub mod frame;
 pub mod hspdsch;
+pub mod lengths;
 pub mod pccpch;
 pub mod pich;
 pub mod sample;

@@ -6,6 +6,7 @@
 
 pub mod aich;
 pub mod antenna;
+pub mod bank;
 pub mod combiner;
 pub mod compressed;
 pub mod desk;
@@ -15,6 +16,7 @@ pub mod dpdch;
 pub mod frame;
 pub mod hspdsch;
 pub mod job;
+pub mod lengths;
 pub mod pccpch;
 pub mod pich;
 pub mod sample;

@@ -2,6 +2,8 @@
 -- Assumes nothing.
 use mathlib.Core.Path.{sym, _∙_}
 use Rattle.run.proofs.Chain.{leaves-done, leaves-refused}
+use lib.Dec.{lit≤}
+use Rattle.aich.proofs.Folding.{sixteen-weaken}
 use Rattle.aich.proofs.Checks.{taken, taken-done}
 use borrow.Author.Needs.{needs}
 use Rattle.aich.proofs.map.Statement.{statement}
@@ -18,7 +20,7 @@ returns c =
 write-values-requires : tie.Need-write-values-requires
 write-values-requires c κs =
     let t = taken _ _ (rw (c .before .before .before .map-verdict .ensures) at (c .before .if1 .left)) in
-    (t .indicators-ok, t .values-ok)
+    (sixteen-weaken (lit≤ tt) (t .indicators-ok), t .values-ok)
 
 same-length : tie.Need-same-length
 same-length c = search needs

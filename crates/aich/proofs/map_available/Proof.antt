@@ -2,6 +2,8 @@
 -- Assumes nothing.
 use mathlib.Core.Path.{refl}
 use borrow.Author.Needs.{needs}
+use lib.Dec.{lit≤}
+use Rattle.aich.proofs.Folding.{sixteen-weaken}
 use Rattle.aich.proofs.Checks.{taken}
 use Rattle.aich.proofs.Available.{map-refused, map-stray, map-done, some-stray, none-stray}
 use Rattle.aich.proofs.map_available.Statement.{statement}
@@ -35,7 +37,7 @@ write-values-requires : tie.Need-write-values-requires
 write-values-requires c κs =
     let past = c .before .before .before in
     let t = taken _ _ (rw (past .before .before .map-verdict .ensures) at (past .if1 .left)) in
-    (t .indicators-ok, t .values-ok)
+    (sixteen-weaken (lit≤ tt) (t .indicators-ok), t .values-ok)
 
 same-length : tie.Need-same-length
 same-length c = search needs

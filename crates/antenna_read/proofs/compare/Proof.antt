@@ -1,17 +1,15 @@
 -- `antenna_read::compare` meets its contract.
 -- Assumes nothing.
 use mathlib.Core.Path.{_≡_, ap, _∙_}
-use mathlib.Core.List.{List}
-use Prim.Native.Nat.{ℕ, min}
+use Prim.Native.Nat.{min}
 use native.Mathlib.Omega.{arith}
-use borrow.Author.Tests.{eq-eqb}
 use denote.Ref.{now}
 use lib.ListN.{length}
 use Rattle.run.specs.First.{firstBad, agree}
 use Rattle.dpch.specs.Formats.{formatOf}
 use Rattle.antenna.specs.Rule.{secondOf}
-use Rattle.antenna.specs.Outcome.{secondOver}
 use Rattle.antenna.proofs.Laws.{second-length}
+use Rattle.antenna_read.proofs.Laws.{made}
 use borrow.Author.Needs.{needs}
 use Rattle.antenna_read.proofs.compare.Statement.{statement}
 use Rattle.antenna_read.proofs.compare.Tie as tie
@@ -24,11 +22,6 @@ first-diff-requires c κs = search needs
 
 same-length : tie.Need-same-length
 same-length c = search needs
-
--- runs of the slot's length
-made : (format slot : ℕ) (first out : List ℕ) → length first ≡ formatOf format .slot → length out ≡ formatOf format .slot → secondOver format slot first out ≡ secondOf format slot first
-unfolding secondOver
-made format slot first out p q = rw (eq-eqb _ _ p, eq-eqb _ _ q)
 
 returns : tie.Need-returns
 returns c =

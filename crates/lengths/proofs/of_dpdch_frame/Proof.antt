@@ -11,8 +11,8 @@ use Rattle.lengths.proofs.of_dpdch_frame.Tie as tie
 size-of-requires : tie.Need-size-of-requires
 size-of-requires c κs = search needs
 
-mul-n : tie.Need-mul-n
-mul-n c = rw (c .size-of .ensures) (let h = slots-small 15 (c .before .args .format) (omega arith) in omega arith)
+mul-frame : tie.Need-mul-frame
+mul-frame c = rw (c .size-of .ensures) (let h = slots-small 15 (c .before .args .format) (omega arith) in omega arith)
 
 frame-head-requires : tie.Need-frame-head-requires
 frame-head-requires c κs = search needs
@@ -26,4 +26,4 @@ returns c = rw (c .before .frame-head .ensures, head-alone, c .before .before .s
 
 pub of-dpdch-frame-spec : {M : Type 1} → statement M
 of-dpdch-frame-spec =
-    tie.close (tie.spec size-of-requires mul-n frame-head-requires tell-requires returns)
+    tie.close (tie.spec size-of-requires mul-frame frame-head-requires tell-requires returns)

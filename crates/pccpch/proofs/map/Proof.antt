@@ -13,7 +13,7 @@ fits-requires c κs = search needs
 write-both-requires : tie.Need-write-both-requires
 write-both-requires c κs =
     let t = taken _ _ _ (number-0 (c .before .before .before .fits2 .ensures .0 (c .before .before .if1 .taken))) in
-    (t .data-ok, t .first-ok, t .second-ok)
+    (t .data-ok, t .second-ok)
 
 same-length : tie.Need-same-length
 same-length c = search needs
@@ -28,7 +28,7 @@ returns c =
     let v = turn .before .fits2 .ensures .0 (turn .if1 .taken) in
     record {
       verdict-is = sym v;
-      antenna1-is = both .write-both .ensures .0 ∙ sym (leaves-done _ _ _ (number-0 v));
+      antenna1-is = both .write-both .ensures .0 (taken _ _ _ (number-0 v) .first-ok) ∙ sym (leaves-done _ _ _ (number-0 v));
       antenna2-is = both .write-both .ensures .1 ∙ sym (leaves-done _ _ _ (number-0 v));
     }
 

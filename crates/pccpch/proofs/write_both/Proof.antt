@@ -12,14 +12,14 @@ slice-aggregate-code c = search needs
 code-requires : tie.Need-code-requires
 code-requires c κs = search needs
 
-write-frame-requires : tie.Need-write-frame-requires
-write-frame-requires c κs = search needs
+write-first-requires : tie.Need-write-first-requires
+write-first-requires c κs = search needs
 
 slice-aggregate-write-frame : tie.Need-slice-aggregate-write-frame
 slice-aggregate-write-frame c = search needs
 
-write-frame-requires-2 : tie.Need-write-frame-requires-2
-write-frame-requires-2 c κs = search needs
+write-frame-requires : tie.Need-write-frame-requires
+write-frame-requires c κs = search needs
 
 same-length : tie.Need-same-length
 same-length c = search needs
@@ -31,7 +31,7 @@ returns : tie.Need-returns
 unfolding secondOf
 returns c =
     let first = c .before .before .before .before .before .before .before in
-    (first .write-frame .ensures, c .before .before .write-frame2 .ensures ∙ ap frameOf (first .before .before .before .code .ensures))
+    (first .write-first .ensures, c .before .before .write-frame .ensures ∙ ap frameOf (first .before .before .before .code .ensures))
 
 pub write-both-spec : {M : Type 1} → statement M
 write-both-spec =
@@ -39,9 +39,9 @@ write-both-spec =
     (tie.spec
     slice-aggregate-code
     code-requires
-    write-frame-requires
+    write-first-requires
     slice-aggregate-write-frame
-    write-frame-requires-2
+    write-frame-requires
     same-length
     same-length-2
     returns)

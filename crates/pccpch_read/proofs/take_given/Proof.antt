@@ -16,11 +16,10 @@ slice-aggregate-take-data c = search needs
 take-data-requires : tie.Need-take-data-requires
 take-data-requires c κs = search needs
 
-slice-aggregate-is-given : tie.Need-slice-aggregate-is-given
-slice-aggregate-is-given c = search needs
-
 is-given-requires : tie.Need-is-given-requires
-is-given-requires c κs = search needs
+is-given-requires c κs =
+    let pre = c .before .before .before .before .before .before .pre in
+    (pre .0, pre .1, c .before .take-data .ensures)
 
 slice-aggregate-copy : tie.Need-slice-aggregate-copy
 slice-aggregate-copy c = search needs
@@ -34,7 +33,7 @@ same-length c = search needs
 returns : tie.Need-returns
 returns c =
     let asked = c .before .before .before .before .before in
-    let read = asked .before .before .before .before in
+    let read = asked .before .before .before in
     let start = read .before .before .before .before .before in
     let found = read .take-data .ensures in
     let is = c .before .before .copy .ensures ∙ over-whole _ _ (ap length found ∙ data-length _ ∙ sym (start .pre .2)) ∙ found in
@@ -49,7 +48,6 @@ take-given-spec =
     (tie.spec
     slice-aggregate-take-data
     take-data-requires
-    slice-aggregate-is-given
     is-given-requires
     slice-aggregate-copy
     copy-requires

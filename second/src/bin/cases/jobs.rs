@@ -6,8 +6,11 @@ use second::rules::job;
 
 const EXAMPLE: [u8; 14] = *b"SLT\x00\x01\x01\x03\x01\x01\x01\x00\x01\x01\x00";
 
+/// The same record in a file of version 2, whose count has two bytes.
+const EXAMPLE_2: [u8; 15] = *b"SLT\x00\x02\x00\x01\x03\x01\x01\x01\x00\x01\x01\x00";
+
 /// A byte from 0 to 9 as that digit, any other as its letter.
-fn letters(file: &[u8]) -> String {
+pub fn letters(file: &[u8]) -> String {
     file.iter().map(|byte| if *byte < 10 { char::from(b'0' + byte) } else { char::from(*byte) }).collect()
 }
 
@@ -26,12 +29,13 @@ fn changed(places: &[(usize, u8)]) -> Vec<u8> {
 pub fn all() -> Vec<Case> {
     vec![
         printed("other", &EXAMPLE),
+        printed("other", &EXAMPLE_2),
         // the mark in small letters, and the last letter of it alone with a wrong version
         printed("refusal 21", &changed(&[(0, b's'), (1, b'l'), (2, b't')])),
-        printed("refusal 21", &changed(&[(2, b'X'), (4, 2)])),
+        printed("refusal 21", &changed(&[(2, b'X'), (4, 3)])),
         // the low byte of the version first, and another version
         printed("refusal 22", &changed(&[(3, 1), (4, 0)])),
-        printed("refusal 22", &changed(&[(4, 2)])),
+        printed("refusal 22", &changed(&[(4, 3)])),
         // kinds are 1, 2 and 3; a bad kind comes before a bad format
         printed("refusal 23", &changed(&[(6, 0)])),
         printed("refusal 23", &changed(&[(6, 4), (7, b'Z')])),
@@ -41,8 +45,12 @@ pub fn all() -> Vec<Case> {
         printed("refusal 24", &EXAMPLE[..6]),
         printed("refusal 24", &EXAMPLE[..5]),
         printed("refusal 24", &EXAMPLE[..2]),
+        // of version 2 the second byte of the count, and the record's last
+        printed("refusal 24", &EXAMPLE_2[..6]),
+        printed("refusal 24", &EXAMPLE_2[..14]),
         // a byte stands behind the record
         printed("refusal 25", &[EXAMPLE.as_slice(), &[0]].concat()),
+        printed("refusal 25", &[EXAMPLE_2.as_slice(), &[0]].concat()),
         // the record is not the last: a second one that is not counted
         printed("refusal 25", &[EXAMPLE.as_slice(), &EXAMPLE[6..]].concat()),
     ]

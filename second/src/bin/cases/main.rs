@@ -10,12 +10,14 @@
 
 mod access;
 mod antennas;
+mod bank;
 mod case;
 mod compressed;
 mod desk;
 mod frames;
 mod hspdsch;
 mod jobs;
+mod lengths;
 mod paging;
 mod runs;
 mod samples;
@@ -30,7 +32,7 @@ fn main() {
         Some(other) => panic!("{other} is not --questions"),
     };
     let dedicated = [slots::all(), frames::all(), compressed::all(), uplink::all()];
-    let others = [antennas::all(), paging::all(), access::all(), desk::all(), samples::all(), wake::all(), jobs::all(), hspdsch::all()];
+    let others = [antennas::all(), paging::all(), access::all(), desk::all(), samples::all(), wake::all(), jobs::all(), hspdsch::all(), bank::all(), lengths::all()];
     for case in [dedicated.concat(), others.concat()].concat() {
         if questions_only {
             println!("{}", case.question);

@@ -10,12 +10,13 @@ use crate::lent::{Element, HUGE, Held, Room};
 use second::answer::{Answer, Refusal};
 use second::rules::sample::Sample;
 
-/// What a run is. The elements of the first two are told: those before the call, and those after it.
+/// What a run is. The elements of the first two are told: those before the call, and those after it; and both of the last.
 const HELD: u8 = 0;
 const WRITTEN: u8 = 1;
 const KEPT: u8 = 2;
 const NULL: u8 = 3;
 const HUGE_ROOM: u8 = 4;
+const CHANGED: u8 = 5;
 
 /// A case that is put together: its numbers, its runs, and at last what the rules say.
 pub struct Case {
@@ -62,6 +63,15 @@ impl Case {
             assert_eq!(run.len(), room.length, "a call that is done fills its rooms");
             run.iter().for_each(|element| element.put(&mut self.bytes));
         }
+        self
+    }
+
+    /// A run that is read and then written, if the call is done: then `after` says with what. One that is kept is held.
+    pub fn changed<T: Element>(mut self, held: &Held<T>, after: Option<&[T]>) -> Case {
+        let Some(after) = after.filter(|_| !held.null) else { return self.held(held) };
+        assert_eq!(after.len(), held.run.len(), "a call changes no length");
+        self.run(CHANGED, held.place, held.run.len());
+        held.run.iter().chain(after).for_each(|element| element.put(&mut self.bytes));
         self
     }
 

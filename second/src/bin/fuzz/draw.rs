@@ -187,6 +187,12 @@ impl Draw {
         Held { null: run.is_empty() && self.coin(), run, place }
     }
 
+    /// A run that is read, of its own length.
+    pub fn held<T: Element>(&mut self, run: Vec<T>) -> Held<T> {
+        let place = self.random.pick(&PLACES);
+        Held { null: run.is_empty() && self.coin(), run, place }
+    }
+
     /// A run that may be written, of the right length or of another; one in eight of those is huge, and most of the huge
     /// ones are right in their low 32 bits.
     pub fn room(&mut self, right: usize) -> Room {

@@ -10,11 +10,13 @@
 #![deny(warnings)]
 #![deny(unsafe_code)]
 
+mod bank;
 mod calls;
 mod case;
 mod compressed;
 mod dpch;
 mod draw;
+mod lengths;
 mod lent;
 mod uplink;
 mod wake;
@@ -29,7 +31,7 @@ use std::process::ExitCode;
 type Call = (&'static [u16], fn(&mut Draw) -> Case);
 
 /// In the order of `include/slt.h`, which is that of the table in `fuzz/calls.c`.
-const CALLS: [Call; 38] = [
+const CALLS: [Call; 52] = [
     (&[0, 8, 11], calls::pich_q),
     (&[0, 3, 4, 8], calls::pich_map),
     (&[0, 3, 4, 8, 9], calls::pich_read),
@@ -57,6 +59,14 @@ const CALLS: [Call; 38] = [
     (&[0, 3, 4, 9], calls::pccpch_read),
     (&[0, 1, 3, 4], calls::hspdsch_map),
     (&[0, 1, 3, 4, 9], calls::hspdsch_read),
+    (&[0, 1, 11], lengths::slot),
+    (&[0, 1, 11], lengths::frame),
+    (&[0, 1, 11, 27], lengths::compressed),
+    (&[0, 1, 11], lengths::dpdch),
+    (&[0, 1, 11], lengths::dpdch_frame),
+    (&[0, 1, 11], lengths::dpcch),
+    (&[0, 1, 11], lengths::dpcch_frame),
+    (&[0, 1, 11], lengths::hspdsch),
     (&[0, 3, 11], calls::aich_map),
     (&[0, 3, 10], calls::aich_read),
     (&[0, 3, 11, 26], calls::aich_map_available),
@@ -68,6 +78,12 @@ const CALLS: [Call; 38] = [
     (&[0, 11], calls::sample_off),
     (&[0, 11], calls::sample_shared),
     (&[0, 11], calls::sample_each),
+    (&[0, 28], bank::empty),
+    (&[0, 3, 4, 11, 28, 30, 31], bank::store),
+    (&[0, 3, 11, 28, 29], bank::fetch),
+    (&[0, 11, 28, 29], bank::drop),
+    (&[0, 11, 28, 29], bank::length),
+    (&[0, 28], bank::room),
 ];
 
 /// As many of each call.

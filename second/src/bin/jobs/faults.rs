@@ -103,7 +103,7 @@ impl Draft {
         match fault {
             OverLong => self.padded = true,
             WrongMark => self.header[2] = b't',
-            WrongVersion => self.header[4] = 2,
+            WrongVersion => self.header[4] = 3,
             ByteAfter => self.after = vec![AICH],
             // The kind is still there.
             MissingByte => self.cut = Some((index, 1)),
@@ -212,7 +212,9 @@ mod tests {
 
     #[test]
     fn the_earlier_check_is_told() {
-        assert_eq!(told("OverLong and WrongMark"), "refused 20 65535");
+        assert_eq!(told("OverLong and WrongMark"), "refused 21 2");
+        assert_eq!(told("OverLong and WrongVersion"), "refused 22 4");
+        assert_eq!(told("OverLong and UnknownKind"), "refused 20 65535");
         assert_eq!(told("WrongMark and WrongVersion"), "refused 21 2");
         assert_eq!(told("WrongVersion and UnknownKind"), "refused 22 4");
         assert_eq!(told("WrongVersion and ByteAfter"), "refused 22 4");

@@ -3,6 +3,7 @@
 use crate::chance::{mutation, some_bytes, some_damaged, some_mutations};
 use crate::examples;
 use crate::good::{Job, file, some};
+use crate::version_2::{again, some_long_and_damaged};
 use second::random::{Random, mixed};
 use second::rules::job::LONGEST;
 
@@ -17,6 +18,11 @@ pub fn lists(seed: u64) -> Vec<(&'static str, Vec<Job>)> {
         ("the examples, changed in the same ways", changed_examples(random(4), 600)),
         ("small files in small pieces", small_pieces(random(5), 60)),
         ("huge files in pieces", huge(random(6), 24)),
+        ("version 2: damaged fields", again(some_damaged(random(7), 300))),
+        ("version 2: flipped, cut, lengthened and torn", again(some_mutations(random(8), 500))),
+        ("version 2: small files in small pieces", again(small_pieces(random(9), 40))),
+        ("version 2: huge files in pieces", again(huge(random(10), 16))),
+        ("version 2: long files, damaged", some_long_and_damaged(random(11), 24)),
     ]
 }
 

@@ -2,7 +2,7 @@
 
 use second::fields::{lengths_of, random_tfci};
 use second::random::Random;
-use second::rules::job::MARK_AND_VERSION;
+use second::rules::job::{MARK_AND_VERSION, MARK_AND_VERSION_2};
 
 /// One file to be compared.
 pub struct Job {
@@ -11,11 +11,13 @@ pub struct Job {
     pub bytes: Vec<u8>,
     /// How many bytes the program is given at a time.
     pub piece: usize,
+    /// Where a seed stands here, each piece has from one byte to that many.
+    pub uneven: Option<u64>,
 }
 
 impl Job {
     pub fn new(what: impl Into<String>, bytes: Vec<u8>) -> Job {
-        Job { what: what.into(), bytes, piece: usize::MAX }
+        Job { what: what.into(), bytes, piece: usize::MAX, uneven: None }
     }
 }
 
@@ -38,6 +40,15 @@ pub fn file(records: &[Vec<u8>]) -> Vec<u8> {
 
 pub fn file_counting(count: u8, records: &[Vec<u8>]) -> Vec<u8> {
     [&MARK_AND_VERSION[..], &[count], &records.concat()].concat()
+}
+
+/// The same of version 2.
+pub fn file_2(records: &[Vec<u8>]) -> Vec<u8> {
+    file_2_counting(u16::try_from(records.len()).expect("at most 65535 records"), records)
+}
+
+pub fn file_2_counting(count: u16, records: &[Vec<u8>]) -> Vec<u8> {
+    [&MARK_AND_VERSION_2[..], &count.to_be_bytes(), &records.concat()].concat()
 }
 
 pub fn aich(random: &mut Random) -> Vec<u8> {
@@ -80,6 +91,35 @@ pub fn any(random: &mut Random, highest_format: u8) -> Vec<u8> {
 /// A few records of any kind.
 pub fn some(random: &mut Random, most: usize, highest_format: u8) -> Vec<Vec<u8>> {
     (0..1 + random.below(most)).map(|_| any(random, highest_format)).collect()
+}
+
+/// The length of the last record that `filling` gives, which is of format 0.
+pub const LAST: usize = 8;
+
+/// Good records of every kind, Np and format that fill exactly so many bytes.
+pub fn filling(length: usize) -> Vec<Vec<u8>> {
+    let mut random = Random::new(length as u64);
+    let mut records = vec![aich(&mut random)];
+    records.extend(NPS.map(|np| pich(&mut random, np)));
+    records.extend((0..=16).map(|format| dpch(&mut random, format, format % 15, format % 2)));
+    let mut rest = length - records.concat().len();
+    // The longest records that leave room for seven of AICH.
+    for format in (0..=16).rev() {
+        let mut record = dpch(&mut random, format, 13, 1);
+        while record.len() + 7 * 17 <= rest {
+            rest -= record.len();
+            records.push(record);
+            record = dpch(&mut random, format, 13, 0);
+        }
+    }
+    // 17 bytes of AICH are one more than two of format 0, so some of either fill what is left.
+    for _ in 0..rest % LAST {
+        records.push(aich(&mut random));
+        rest -= 17;
+    }
+    records.extend((0..rest / LAST).map(|_| dpch(&mut random, 0, 1, 0)));
+    assert_eq!(records.concat().len(), length, "the records have the length asked for");
+    records
 }
 
 /// The smallest records of each kind, in each order that begins with another kind.

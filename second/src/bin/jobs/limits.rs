@@ -1,36 +1,12 @@
 //! Files near the longest, files of the most records, and files that arrive in pieces.
 
-use crate::good::{Job, NPS, aich, any, dpch, file, file_counting, pich, three_kinds};
+use crate::good::{Job, LAST, aich, any, dpch, file, file_counting, filling, pich, three_kinds};
 use second::random::Random;
 use second::rules::job::LONGEST;
 
-/// The length of the last record that `exactly` gives, which is of format 0.
-const LAST: usize = 8;
-
-/// Good records of every kind, Np and format, for a file of exactly the given length.
+/// Good records for a file of version 1 of exactly the given length.
 fn exactly(length: usize) -> Vec<Vec<u8>> {
-    let mut random = Random::new(length as u64);
-    let mut records = vec![aich(&mut random)];
-    records.extend(NPS.map(|np| pich(&mut random, np)));
-    records.extend((0..=16).map(|format| dpch(&mut random, format, format % 15, format % 2)));
-    let mut rest = length - 6 - records.concat().len();
-    // The longest records that leave room for seven of AICH.
-    for format in (0..=16).rev() {
-        let mut record = dpch(&mut random, format, 13, 1);
-        while record.len() + 7 * 17 <= rest {
-            rest -= record.len();
-            records.push(record);
-            record = dpch(&mut random, format, 13, 0);
-        }
-    }
-    // 17 bytes of AICH are one more than two of format 0, so some of either fill what is left.
-    for _ in 0..rest % LAST {
-        records.push(aich(&mut random));
-        rest -= 17;
-    }
-    records.extend((0..rest / LAST).map(|_| dpch(&mut random, 0, 1, 0)));
-    assert_eq!(file(&records).len(), length, "the file has the length asked for");
-    records
+    filling(length - 6)
 }
 
 /// Good but for their length, or bad at their very end.

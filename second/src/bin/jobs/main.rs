@@ -18,10 +18,12 @@ mod fields;
 mod fuzz;
 mod good;
 mod header;
+mod limit;
 mod limits;
 mod run;
 mod shapes;
 mod valid;
+mod version_2;
 
 use good::Job;
 use run::Tally;
@@ -62,6 +64,21 @@ const LISTS: &[List] = &[
     ("good files flipped, cut, lengthened and torn at random", chance::mutations),
 ];
 
+/// The lists of version 2 alone. Those above are compared as version 2 too.
+const LISTS_2: &[List] = &[
+    ("version 2: 0 to 65535 records, as counted and one off", version_2::counts),
+    ("version 2: every byte of the count", version_2::count_bytes),
+    ("version 2: lengths near each limit", version_2::lengths),
+    ("version 2: the longest file, bad at its end", version_2::bad_at_the_end),
+    ("version 2: records that cross the limit at each byte", version_2::crossing_the_limit),
+    ("version 2: the limit at a kind, an Np, a format, behind the last record", version_2::at_the_limit),
+    ("version 2: records that cross the end of what is held", version_2::crossing_what_is_held),
+    ("version 2: records of one length", version_2::one_length),
+    ("version 2: some thousand records", version_2::thousands),
+    ("version 2: files that arrive in pieces", version_2::pieces),
+    ("version 2: long files, flipped, cut, lengthened and torn", version_2::long_and_damaged),
+];
+
 /// Every number that a job can be refused with, and 0 for done.
 const NUMBERS: [u16; 14] = [0, 1, 2, 4, 5, 6, 8, 11, 20, 21, 22, 23, 24, 25];
 
@@ -91,7 +108,13 @@ fn compare(slotline: &Path, directory: &Path) -> Result<(), String> {
     let mut tally = Tally::new(slotline);
     for (name, list) in LISTS {
         tally.compare(name, &list())?;
+        tally.compare(&format!("as version 2: {name}"), &version_2::again(list()))?;
     }
+    for (name, list) in LISTS_2 {
+        tally.compare(name, &list())?;
+    }
+    limit::reads_no_more(slotline, &std::env::temp_dir().join(format!("jobs.{}", std::process::id())))?;
+    limit::ends_at_the_limit(slotline)?;
     examples::check_stored(directory)?;
     tally.compare("the stored examples", &examples::jobs())?;
     tally.must_have_seen(&NUMBERS)?;

@@ -1,6 +1,7 @@
 //! Runs the program on files and compares what it prints.
 
 use crate::good::Job;
+use second::random::Random;
 use second::rules;
 use std::collections::BTreeSet;
 use std::io::Write;
@@ -17,8 +18,13 @@ const AT_A_TIME: usize = 2;
 const SHOWN_BYTES: usize = 400;
 const SHOWN_TEXT: usize = 1200;
 
-/// Between two pieces, so that a program that reads only what is there sees the end of a piece.
+/// Between two pieces, so that a program that reads only what is there sees the end of a piece; of a file in many pieces
+/// only behind the first ones.
 const PAUSE: Duration = Duration::from_micros(200);
+const PAUSES: usize = 1000;
+
+/// How many files of a list are run before their texts are compared: huge ones do not fit all together.
+const TOGETHER: usize = 64;
 
 /// What has been compared.
 pub struct Tally {
@@ -39,14 +45,15 @@ impl Tally {
 
     /// Compares every file of a list. Answers the first difference in words.
     pub fn compare(&mut self, list: &str, jobs: &[Job]) -> Result<(), String> {
-        let texts: Vec<String> = jobs.iter().map(|job| rules::job::printed(&job.bytes)).collect();
-        self.seen.extend(texts.iter().map(|text| number(text)));
-        let outputs = outputs(&self.program, jobs)?;
-        for (index, output) in outputs.iter().enumerate() {
-            // How the program ends is not laid down, but it must end by itself.
-            if output.stdout != texts[index].as_bytes() || output.status.code().is_none() {
-                let name = format!("{list}, file {index} of {}: {}", jobs.len(), jobs[index].what);
-                return Err(difference(&name, &jobs[index], &texts[index], output));
+        for (batch, some) in jobs.chunks(TOGETHER).enumerate() {
+            for (index, output) in outputs(&self.program, some)?.iter().enumerate() {
+                let text = rules::job::printed(&some[index].bytes);
+                self.seen.insert(number(&text));
+                // How the program ends is not laid down, but it must end by itself.
+                if output.stdout != text.as_bytes() || output.status.code().is_none() {
+                    let name = format!("{list}, file {} of {}: {}", batch * TOGETHER + index, jobs.len(), some[index].what);
+                    return Err(difference(&name, &some[index], &text, output));
+                }
             }
         }
         println!("{list}: {} files", jobs.len());
@@ -112,13 +119,21 @@ fn output(program: &Path, job: &Job) -> Result<Output, String> {
 
 /// Gives the program its file. A program that knows its answer need not read on, so a closed pipe is no fault.
 fn feed(mut input: ChildStdin, job: &Job) {
-    for (index, piece) in job.bytes.chunks(job.piece).enumerate() {
-        if index > 0 {
+    let mut random = job.uneven.map(Random::new);
+    let mut rest = &job.bytes[..];
+    for turn in 0.. {
+        let length = random.as_mut().map_or(job.piece, |random| 1 + random.below(job.piece));
+        let (piece, behind) = rest.split_at(length.min(rest.len()));
+        if piece.is_empty() {
+            return;
+        }
+        if (1..PAUSES).contains(&turn) {
             thread::sleep(PAUSE);
         }
         if input.write_all(piece).is_err() {
             return;
         }
+        rest = behind;
     }
 }
 

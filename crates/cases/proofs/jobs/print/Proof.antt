@@ -25,8 +25,8 @@ text-requires c κs = search needs
 tell-requires : tie.Need-tell-requires
 tell-requires c κs = search needs
 
-record-requires : tie.Need-record-requires
-record-requires c κs = search needs
+first-requires : tie.Need-first-requires
+first-requires c κs = search needs
 
 returns : tie.Need-returns
 returns c = search needs
@@ -44,6 +44,6 @@ print-spec =
     slice-aggregate-text
     text-requires
     tell-requires
-    record-requires
+    first-requires
     returns
     returns-2)

@@ -7,10 +7,10 @@ use Rattle.cases.proofs.question.call.Statement.{statement}
 use Rattle.cases.proofs.question.call.Tie as tie
 
 abbrev Inv-loop : tie.InvT-loop
-Inv-loop line words k₀ t5 k = k ≤ 37
+Inv-loop line words k₀ t5 k = k ≤ 51
 
 abbrev μ-loop : tie.MeasureT-loop
-μ-loop line words k₀ t5 k = 37 - k
+μ-loop line words k₀ t5 k = 51 - k
 
 behind-requires : tie.Need-behind-requires Inv-loop μ-loop
 behind-requires c κs = tt

@@ -1,0 +1,10 @@
+pub mod Laws
+pub mod Front
+pub mod Digits
+pub mod Reading
+pub mod Split
+pub mod Calls
+pub mod Change
+pub mod Lists
+pub mod Exact
+pub mod Again

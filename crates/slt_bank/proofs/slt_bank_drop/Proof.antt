@@ -1,0 +1,25 @@
+-- `slt_bank::slt_bank_drop` meets its contract: the call's own answer, packed, which fits the fields.
+-- Assumes nothing.
+use borrow.Author.Needs.{needs}
+use lib.Dec.{lit<}
+use Rattle.bank.proofs.Exact.{packs}
+use Rattle.packed.proofs.Exact.{fitted}
+use Rattle.slt_bank.proofs.slt_bank_drop.Statement.{statement}
+use Rattle.slt_bank.proofs.slt_bank_drop.Tie as tie
+
+drop-requires : tie.Need-drop-requires
+drop-requires c κs = search needs
+
+pack-requires : tie.Need-pack-requires
+pack-requires c κs = search needs
+
+same-length : tie.Need-same-length
+same-length c = search needs
+
+returns : tie.Need-returns
+returns c =
+    let m = c .before .before .before .drop .ensures in
+    record { answer-is = fitted 0 (c .pack .ensures) (m .verdict-is) (packs .drop-narrow _ _) (lit< tt); bank-is = m .bank-is }
+
+pub slt-bank-drop-spec : {M : Type 1} → statement M
+slt-bank-drop-spec = tie.close (tie.spec drop-requires pack-requires same-length returns)
