@@ -69,6 +69,21 @@ fn gap_head(f: Format, first: usize, missing: usize, a: bool, b: bool, c: bool, 
     or_else(unless(0 < f.kind, refusal::FORMAT, 0), gap)
 }
 
+// The checks of row and gap alone, before any length is asked for.
+pub fn gap_verdict(format: usize, kind: usize, first: usize, missing: usize) -> Verdict
+    ensures { λ r. ⌜ r ≡ gapHead (formatIn kind format) first missing [] ⌝ }
+{
+    gap_head(
+        dpch_rows::format_in(kind, format),
+        first,
+        missing,
+        true,
+        true,
+        true,
+        true,
+    )
+}
+
 // The checks of row, gap and lengths before a frame is mapped.
 pub fn map_head(
     format: usize,

@@ -1,9 +1,9 @@
 -- Heads with no run to ask the length of, and what the private function that tells a length needs.
 -- Assumes nothing.
-use mathlib.Core.Path.{_≡_, refl, sym, _∙_}
-use mathlib.Core.Bool.{Bool, true}
+use mathlib.Core.Path.{_≡_, refl, sym, ap, _∙_}
+use mathlib.Core.Bool.{Bool, true, false, cond}
 use mathlib.Core.List.{List, [], _∷_}
-use Prim.Native.Nat.{ℕ, _*_, _≤_, _<_}
+use Prim.Native.Nat.{ℕ, zero, suc, _*_, _≤_, _<_}
 use native.Mathlib.Omega.{arith}
 use borrow.Author.Tests.{ltb-true, eq-eqb}
 use lib.Dec.{eqb, ltb}
@@ -12,31 +12,15 @@ use lib.Seq.{getD-take, length-take-le}
 use Rattle.run.specs.declared.Verdict.{Verdict}
 use Rattle.run.specs.Refusals.{rangeRefused}
 use Rattle.run.specs.Verdicts.{orElse, unless, lengths, leaves, Narrow}
-use Rattle.run.proofs.Chain.{AllRight, lengths-pass, or-else-done, unless-done, leaves-done, leaves-refused}
-use Rattle.dpch.specs.declared.Format.{Format}
+use Rattle.run.proofs.Chain.{AllRight, lengths-pass, or-else-done, unless-done, leaves-done, leaves-refused, leaves-small}
 use Rattle.dpch.specs.Heads.{frameHead}
-use Rattle.slot.specs.Rule.{dataSize}
-use Rattle.compressed.specs.Rule.{transmitted}
-use Rattle.compressed.specs.Outcome as compressed
-use Rattle.compressed.specs.Outcome.{gapHead}
+use Rattle.compressed.proofs.Accept.{none-asked}
 use Rattle.lengths.specs.declared.Length.{Length}
 use Rattle.lengths.specs.Outcome.{toldVerdict, Told}
-
--- runs that all have their lengths are as good as none
-pub none-asked : (right : List Bool) → AllRight right → lengths right ≡ lengths []
-none-asked right h = lengths-pass right h ∙ sym (lengths-pass [] tt)
 
 pub head-alone : (last format : ℕ) → frameHead last format (true ∷ true ∷ true ∷ true ∷ []) ≡ frameHead last format []
 unfolding frameHead
 head-alone last format = rw (none-asked (true ∷ true ∷ true ∷ true ∷ []) (refl, (refl, (refl, (refl, tt)))))
-
-same-four : (a b c d : ℕ) → lengths (eqb a a ∷ eqb b b ∷ eqb c c ∷ eqb d d ∷ []) ≡ lengths []
-same-four a b c d = none-asked (eqb a a ∷ eqb b b ∷ eqb c c ∷ eqb d d ∷ []) (eq-eqb a a refl, (eq-eqb b b refl, (eq-eqb c c refl, (eq-eqb d d refl, tt))))
-
-pub gap-alone : (f : Format) (first missing : ℕ)
-    → compressed.mapHead f first missing (transmitted missing * dataSize f) (transmitted missing * f .tfci) (15 * f .slot) (transmitted missing) ≡ gapHead f first missing []
-unfolding compressed.mapHead gapHead
-gap-alone f first missing = rw (same-four (transmitted missing * dataSize f) (transmitted missing * f .tfci) (15 * f .slot) (transmitted missing))
 
 -- one of at most four runs: their number decides the verdict, and where it is done the length is had from all four
 module _ (head : Verdict) (count run : ℕ) (xs : List ℕ) (four : length xs ≡ 4) (few : count ≤ 4) where
@@ -61,3 +45,42 @@ module _ (head : Verdict) (count run : ℕ) (xs : List ℕ) (four : length xs �
   length-told v n e h m =
       let t = verdict-told v e in
       record { verdict-is = t; length-is = m ∙ sym (leaves-done _ _ _ (rw t at h) ∙ getD-take count xs run 0 (run-there v e h)) }
+
+-- a frame's: fifteen times the length of a slot's run, or one command fifteen times
+module _ (head : Verdict) (a b c run : ℕ) (l : Length) (t : Told head (a ∷ b ∷ c ∷ 1 ∷ []) run l) where
+  picked-small : (k : ℕ) → a ≤ 1280 → b ≤ 1280 → c ≤ 1280 → getD (a ∷ b ∷ c ∷ 1 ∷ []) k 0 < 1281
+  picked-small zero h i j = omega arith
+  picked-small (suc zero) h i j = omega arith
+  picked-small (suc (suc zero)) h i j = omega arith
+  picked-small (suc (suc (suc zero))) h i j = omega arith
+  picked-small (suc (suc (suc (suc k)))) h i j = omega arith
+
+  pub frame-small : (a ≤ 1280) × (b ≤ 1280) × (c ≤ 1280) → l .length < 1281
+  frame-small h = rw (t .length-is) (leaves-small _ _ 1281 (λ _. picked-small run (h .0) (h .1) (h .2)) (omega arith))
+
+  fifteen : (k : ℕ) → 15 * getD (a ∷ b ∷ c ∷ 1 ∷ []) k 0 ≡ getD (15 * a ∷ 15 * b ∷ 15 * c ∷ 15 ∷ []) k 0
+  fifteen zero = refl
+  fifteen (suc zero) = refl
+  fifteen (suc (suc zero)) = refl
+  fifteen (suc (suc (suc zero))) = refl
+  fifteen (suc (suc (suc (suc k)))) = refl
+
+  -- also where a refusal leaves 0
+  leaves-fifteen : (v : Verdict) (x : ℕ) → 15 * leaves v x 0 ≡ leaves v (15 * x) 0
+  unfolding leaves
+  leaves-fifteen v x = pick (eqb (v .number) 0)
+    where
+      pick : (b : Bool) → 15 * cond b x 0 ≡ cond b (15 * x) 0
+      pick true = refl
+      pick false = refl
+
+  four : toldVerdict head (a ∷ b ∷ c ∷ 1 ∷ []) run ≡ toldVerdict head (15 * a ∷ 15 * b ∷ 15 * c ∷ 15 ∷ []) run
+  unfolding toldVerdict
+  four = refl
+
+  pub frame-told : (n : ℕ) → n ≡ 15 * l .length → Told head (15 * a ∷ 15 * b ∷ 15 * c ∷ 15 ∷ []) run (record { verdict = l .verdict; length = n })
+  frame-told n e =
+      record {
+        verdict-is = t .verdict-is ∙ four;
+        length-is = e ∙ ap (λ (x : ℕ). 15 * x) (t .length-is) ∙ leaves-fifteen _ _ ∙ rw (four, fifteen run);
+      }

@@ -6,7 +6,7 @@ use run::refusal;
 use run::unless;
 ghost use mathlib.Core.Path.{_≡_};
 ghost use mathlib.Core.List.{[], _∷_};
-ghost use Prim.Native.Nat.{_≤_};
+ghost use Prim.Native.Nat.{_≤_, _*_};
 ghost use lib.ListN.{getD, take};
 ghost use Rattle.dpch.specs.Compressed.{formatIn};
 ghost use Rattle.dpch.specs.Heads.{frameHead};
@@ -48,6 +48,17 @@ fn tell(head: Verdict, count: usize, run: usize, a: usize, b: usize, c: usize, d
     }
 }
 
+// .. of fifteen slots, which have three runs, and of their commands.
+fn tell_frame(head: Verdict, run: usize, a: usize, b: usize, c: usize) -> Length
+    requires { ⌜ (a ≤ 1280) × (b ≤ 1280) × (c ≤ 1280) ⌝ }
+    ensures { λ r. ⌜ Told head (15 * a ∷ 15 * b ∷ 15 * c ∷ 15 ∷ []) run r ⌝ }
+{
+    let told = tell(head, 4, run, a, b, c, 1);
+    let verdict = told.verdict;
+    let length = 15 * told.length;
+    Length { verdict, length }
+}
+
 // A slot of the downlink DPCH, on either antenna.
 pub fn of_slot(format: usize, run: usize) -> Length
     ensures { λ r. ⌜ Told (frameHead 16 format []) (slotLengths format) run r ⌝ }
@@ -63,10 +74,10 @@ pub fn of_frame(format: usize, run: usize) -> Length
 {
     let s = slot::sizes_of(format);
     let head = frame_head(16, format, true, true, true, true);
-    tell(head, 4, run, 15 * s.data, 15 * s.tfci, 15 * s.slot, 15)
+    tell_frame(head, run, s.data, s.tfci, s.slot)
 }
 
-// A compressed frame of it. The head is asked of runs that have their lengths.
+// A compressed frame of it.
 pub fn of_compressed(format: usize, kind: usize, first: usize, missing: usize, run: usize) -> Length
     ensures { λ r. ⌜ Told (gapHead (formatIn kind format) first missing []) (compressedLengths kind format missing) run r ⌝ }
 {
@@ -75,7 +86,7 @@ pub fn of_compressed(format: usize, kind: usize, first: usize, missing: usize, r
     let data = n * s.data;
     let tfci = n * s.tfci;
     let frame = 15 * s.slot;
-    let head = compressed::map_head(format, kind, first, missing, data, tfci, frame, n);
+    let head = compressed::gap_verdict(format, kind, first, missing);
     tell(head, 4, run, data, tfci, frame, n)
 }
 
@@ -112,7 +123,7 @@ pub fn of_dpcch_frame(format: usize, run: usize) -> Length
 {
     let f = dpcch::format_of(format);
     let head = frame_head(3, format, true, true, true, true);
-    tell(head, 4, run, 15 * f.tfci, 15 * f.fbi, 15 * f.slot, 15)
+    tell_frame(head, run, f.tfci, f.fbi, f.slot)
 }
 
 // A subframe of the HS-PDSCH.

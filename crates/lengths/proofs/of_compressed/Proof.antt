@@ -4,7 +4,6 @@ use Prim.Native.Nat.{_≤_}
 use native.Mathlib.Omega.{arith}
 use Rattle.compressed.proofs.Gap.{small-product}
 use Rattle.lengths.specs.Rule.{compressedLengths}
-use Rattle.lengths.proofs.Laws.{gap-alone}
 use borrow.Author.Needs.{needs}
 use Rattle.lengths.proofs.of_compressed.Statement.{statement}
 use Rattle.lengths.proofs.of_compressed.Tie as tie
@@ -30,8 +29,8 @@ mul-tfci c =
 mul-frame : tie.Need-mul-frame
 mul-frame c = search needs
 
-map-head-requires : tie.Need-map-head-requires
-map-head-requires c κs = search needs
+gap-verdict-requires : tie.Need-gap-verdict-requires
+gap-verdict-requires c κs = search needs
 
 tell-requires : tie.Need-tell-requires
 tell-requires c κs = search needs
@@ -41,7 +40,7 @@ unfolding compressedLengths
 returns c =
     let s = c .before .before .before .before .before .before .row-sizes .ensures in
     let n = c .before .before .before .before .before .transmitted .ensures in
-    rw (c .before .map-head .ensures, n, s .data-is, s .tfci-is, s .slot-is, gap-alone) at (c .tell .ensures)
+    rw (c .before .gap-verdict .ensures, n, s .data-is, s .tfci-is, s .slot-is) at (c .tell .ensures)
 
 pub of-compressed-spec : {M : Type 1} → statement M
 of-compressed-spec =
@@ -52,6 +51,6 @@ of-compressed-spec =
     mul-data
     mul-tfci
     mul-frame
-    map-head-requires
+    gap-verdict-requires
     tell-requires
     returns)
