@@ -32,7 +32,7 @@ unfoldable pub without : ℕ → List Slot → List Slot
 without k [] = []
 without k (s ∷ ss) = cond (eqb (s .number) k) ss (s ∷ without k ss)
 
--- 'Each stored slot takes its digits plus 4 bytes, and the bank itself takes 8'
+-- the bytes that a slot takes, four beside its digits; and all that are taken, with the header's eight
 abbrev pub sizeOf : Slot → ℕ
 sizeOf s = 4 + length (s .digits)
 
