@@ -1,4 +1,4 @@
--- `cases::hspdsch::unfold` writes no more digits than there is room for.
+-- `cases::long::unfold` writes no more digits than there is room for.
 -- Assumes nothing.
 use mathlib.Core.Path.{_≡_, sym}
 use Prim.Native.Nat.{_-_, _≤_}
@@ -6,8 +6,8 @@ use native.Mathlib.Omega.{arith}
 use borrow.Rule.Slice.PartMut.{mid-len, same-len-mid}
 use lib.ListN.{length}
 use lib.Seq.{length-take-le}
-use Rattle.cases.proofs.hspdsch.unfold.Statement.{statement}
-use Rattle.cases.proofs.hspdsch.unfold.Tie as tie
+use Rattle.cases.proofs.long.unfold.Statement.{statement}
+use Rattle.cases.proofs.long.unfold.Tie as tie
 
 abbrev Inv-loop : tie.InvT-loop
 Inv-loop text to₀ n₀ k₀ to n k = (n ≤ length to₀) × (k ≤ length to₀) × (length to ≡ length to₀)

@@ -1,4 +1,4 @@
--- `cases::hspdsch::repeat` writes no more digits than there is room for.
+-- `cases::long::repeat` writes no more digits than there is room for.
 -- Assumes nothing.
 use mathlib.Core.Path.{_≡_}
 use Prim.Native.Nat.{_-_, _≤_, _<_}
@@ -6,8 +6,8 @@ use native.Mathlib.Nat.{mod-lt}
 use native.Mathlib.Omega.{arith}
 use borrow.Author.Needs.{needs}
 use lib.ListN.{length}
-use Rattle.cases.proofs.hspdsch.repeat.Statement.{statement}
-use Rattle.cases.proofs.hspdsch.repeat.Tie as tie
+use Rattle.cases.proofs.long.repeat.Statement.{statement}
+use Rattle.cases.proofs.long.repeat.Tie as tie
 
 abbrev Inv-loop : tie.InvT-loop
 Inv-loop digits asked to₀ width n i₀ to i = (i ≤ n) × (n ≤ length to₀) × (length to ≡ length to₀) × (width ≡ length digits) × (0 < width)
