@@ -10,6 +10,7 @@ sys.dont_write_bytecode = True
 
 import cites
 import header
+import kit
 import names
 import package
 import pages
@@ -17,7 +18,7 @@ import pictures
 import promises
 import refusals
 
-CHECKS = (pages, header, package, cites, refusals, promises, pictures)
+CHECKS = (pages, header, package, cites, kit, refusals, promises, pictures)
 
 
 def faults(root):

@@ -9,6 +9,7 @@ import posixpath
 import re
 
 import header
+import kit
 import package
 
 MAN = "packaging/slotline.1"
@@ -34,7 +35,7 @@ TEXTS = {
 }
 # Columns whose words are wrong on purpose, and what tries each of them.
 FREE = {"there stands": "examples/try_mistakes.py"}
-RT = {"check", "ci", "dev", "fmt", "must-fail", "prove", "staticlib", "try"}
+RT = {"check", "ci", "dev", "fmt", "must-fail", "prove", "staticlib", "try", "version"}
 # A line that slotline prints: its first word, and words in capitals for what changes. A refusal that is printed has a number that there is.
 PRINTED = re.compile(r"(SLT|AICH|PICH|DPCH|refused)( 1)?( [A-Z]+)*")
 REFUSED = re.compile(r"refused (\d+) (\d+)")
@@ -163,7 +164,7 @@ def known(tree, word):
     refusal = REFUSED.fullmatch(word)
     if refusal:
         return re.search(rf"^\w+Refused = {refusal[1]}$", tree.text("crates/run/specs/Refusals.antt"), re.M) is not None
-    return word in TEXTS or PRINTED.fullmatch(word) is not None or any(kind(tree, word) for kind in KINDS)
+    return word in TEXTS or word == kit.identity(tree) or PRINTED.fullmatch(word) is not None or any(kind(tree, word) for kind in KINDS)
 
 
 def of_program(text, word):

@@ -68,10 +68,13 @@ PLANTS = (
     ("a function of Python", "python/slt/pich.py", "def pich_q(", "def pich_qq(", "pich_q"),
     ("a sentence of Python", "python/slt/refusals.py", "both gains are zero", "both gains are 0", "refusal 12"),
     ("a sentence of the rules", "docs/RULES.md", "| both gains are zero |", "| both gains are 0 |", "refusal 12"),
-    ("the version of Python", "python/slt/_library.py", "VERSION = \"1.0\"", "VERSION = \"1.1\"", "VERSION"),
+    ("the version of Python", "python/slt/_library.py", "VERSION = \"2.0\"", "VERSION = \"2.1\"", "VERSION"),
     ("a function on Python's page", "docs/PYTHON.md", "| `slt.pich_read(np", "| `slt.pich_reed(np", "slt.pich_reed"),
     ("a name on Python's page", "docs/PYTHON.md", "`sentence`", "`sentense`", "sentense"),
     ("a command of Python", "README.md", "`python -m slt --help`", "`python -m slot --help`", "python -m slot"),
+    ("the kit on the first page", "README.md", "logic 097e", "logic 197e", "logic "),
+    ("the kit on the page of trust", "docs/TRUST.md", "logic 097e", "logic 197e", "logic "),
+    ("the kit that is pinned", "setup/kit", "logic 097e", "logic 197e", "logic "),
     ("a refusal of the specs", "crates/run/specs/Refusals.antt", "pilotRefused = 7", "pilotRefused = 17", ""),
 )
 
