@@ -202,12 +202,20 @@ def both_doors(tree, path):
     return [name for name in (path, path.replace("/specs/", "/proofs/")) if tree.has(name)]
 
 
+def anchors(tree, page):
+    """The sections of a page as a link names them: small letters, a hyphen for a space, and no other mark."""
+    return {re.sub(r"[^\w-]", "", head.strip().lower().replace(" ", "-")) for head in re.findall(r"^#+ (.*)$", tree.text(page), re.M)}
+
+
 def broken_links(tree, page):
-    """A link or a picture leads to a file, from the page's own folder."""
+    """A link or a picture leads to a file, from the page's own folder, or to a section of it."""
     text = tree.text(page)
-    for match in re.finditer(r"\]\(([^)#:\s]+)\)", text):
-        if not tree.has(posixpath.normpath(posixpath.join(posixpath.dirname(page), match[1]))):
+    for match in re.finditer(r"\]\(([^)#:\s]+)(?:#([^)\s]*))?\)", text):
+        target = posixpath.normpath(posixpath.join(posixpath.dirname(page), match[1]))
+        if not tree.has(target):
             yield text.count("\n", 0, match.start()) + 1, f"there is no {match[1]}"
+        elif match[2] is not None and match[2] not in anchors(tree, target):
+            yield text.count("\n", 0, match.start()) + 1, f"{match[1]} has no section {match[2]}"
 
 
 def page_faults(tree, page):
