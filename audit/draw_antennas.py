@@ -42,7 +42,7 @@ def dpch(tree):
             fields, length = rows[number]
             pilot = dict(fields)["pilot"]
             begin, end = (start if number <= few else 0), (length if pilot == whole else length - pilot)
-            said = (f"formats up to {few} (here {number}): the first {start} digits are the same on both, the next {end - begin} are a block" if number <= few else
+            said = (f"formats {' and '.join(map(str, range(few + 1)))} (here {number}): the first {start} digits are the same on both, the next {end - begin} are a block" if number <= few else
                     f"a pilot of {whole} bits (formats {short}, here {number}): the whole slot goes by blocks, the pilot with it" if pilot == whole else
                     f"all other formats (here {number}): what stands before the pilot goes by blocks")
             yield from dpch_slot(y + 62 + 80 * at, said, length, begin, end, block)

@@ -57,9 +57,9 @@ def jobfile(tree):
             yield forms.remark(y + 50 + 62 * at, f"at most {limit} bytes")
 
     def records(y):
-        yield from forms.heading(y, "A record", "Its kind, and what the mapper of that kind takes. How long it is, the byte behind the kind says.")
+        yield from forms.heading(y, "A record", "Its kind, and what the mapper of that kind takes. How long a PICH or DPCH record is, the byte behind its kind says.")
         rows = (("AICH", [(500, f"{kinds['aich'][1] - 1} indicators", "0, 1, 2 for 0, +1, -1", forms.BLUE)]),
-                ("PICH", [(90, "Np", f"{numbers[0][0]} to {numbers[-1][0]}", forms.GREEN), (410, "Np indicators", "0 or 1", forms.BLUE)]),
+                ("PICH", [(110, "Np", ", ".join(str(np) for np, width in numbers), forms.GREEN), (390, "Np indicators", "0 or 1", forms.BLUE)]),
                 ("DPCH", [(90, "format", f"0 to {formats - 1}", forms.GREEN), (80, "slot", f"0 to {slots - 1}", forms.GREEN), (80, "TPC", "0 or 1", forms.GREEN),
                           (90, "TFCI", "by format", forms.BLUE), (160, "data", "by format", forms.BLUE)]))
         for at, (name, parts) in enumerate(rows):

@@ -40,7 +40,7 @@ free_in_shm() {
     chmod +x "$work/df"
 }
 free_in_shm 4194304
-if test -w /dev/shm; then room "$memory" 4194304 /dev/shm; fi
+if test -w /dev/shm && test -n "$(find /dev/shm -prune -perm -003)"; then room "$memory" 4194304 /dev/shm; fi
 room "$memory" 4194303 /somewhere
 room 'tmpfs /dev/shm tmpfs rw,noexec,relatime 0 0' 8388608 /somewhere
 room 'tmpfs /dev/shm tmpfs ro,relatime 0 0' 8388608 /somewhere
