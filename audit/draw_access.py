@@ -131,7 +131,8 @@ def combiner(tree):
     value, low, high = slot_specs.sample(tree)
 
     def combine(y):
-        yield from forms.heading(y, "The combiner: two antennas' AICH, and a number for each signature", "A pair of symbols at a time; * is the conjugate. All numbers are whole, and all results are exact.")
+        yield from forms.heading(y, "The combiner: two antennas' AICH, and a number for each signature",
+                                 "A pair of symbols at a time; * is the conjugate. All numbers are whole, and all results are exact.")
         yield from flow(10, y + 40, 170, "antenna 1", "S1, S2", "gain h1")
         yield from flow(10, y + 122, 170, "antenna 2", pair, "gain h2")
         yield from arrow(186, y + 68, 236)

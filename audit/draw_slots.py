@@ -15,7 +15,8 @@ def slots(tree):
     def frame(y):
         yield from forms.heading(y, "A frame", f"{count} slots of one format, one after the other. Each has its own command and its own pilot; data and TFCI are cut into {count} parts.")
         yield from forms.frame(y + 32, "slot", count, forms.PALE)
-    return forms.page("Downlink DPCH: the fields of a slot, and a frame", forms.formats("Downlink DPCH: the fields of a slot", rows, range(len(rows)), *SCALE), (80, frame))
+    return forms.page("Downlink DPCH: the fields of a slot, and a frame",
+                      forms.formats("Downlink DPCH: the fields of a slot", rows, range(len(rows)), *SCALE), (80, frame))
 
 
 def compressed(tree):
@@ -27,7 +28,8 @@ def compressed(tree):
 
     def frame(y):
         yield from forms.heading(y, f"A compressed frame: slots {first} to {first + missing - 1} are missing",
-                                 f"A gap is told by its first slot ({first}) and by how many are missing ({missing}). {fewest} to {most} of the {count} slots are sent, and a missing slot is nothing but DTX.",
+                                 f"A gap is told by its first slot ({first}) and by how many are missing ({missing}). "
+                                 f"{fewest} to {most} of the {count} slots are sent, and a missing slot is nothing but DTX.",
                                  "Data, TFCI and commands hold the sent slots alone, so behind the gap a slot takes an earlier part than its own number.")
         yield from forms.frame(y + 50, "slot", count, forms.PALE, lambda k: None if k not in sent else str(k))
         yield from forms.frame(y + 80, "part", count, forms.YELLOW, lambda k: "" if k not in sent else str(turn(first, missing, k)))
@@ -42,10 +44,13 @@ def uplink(tree):
     control, data, count = slot_specs.slots(tree, slot_specs.DPCCH), slot_specs.dpdch(tree), slot_specs.frame_slots(tree)
 
     def frame(y):
-        yield from forms.heading(y, "A frame of both", f"{count} slots each, side by side in time. Every control slot has its own pilot, so that a receiver finds where the frame begins; a data slot is the same in every place.")
+        yield from forms.heading(y, "A frame of both", f"{count} slots each, side by side in time. Every control slot has its own pilot, so that a receiver finds where the "
+                                 "frame begins; a data slot is the same in every place.")
         yield from forms.frame(y + 32, "DPCCH", count, forms.GREEN)
         yield from forms.frame(y + 60, "DPDCH", count, forms.fill("data"))
     return forms.page("Uplink: control and data",
-                      forms.formats("Uplink DPCCH: the fields of a control slot", control, range(len(control)), f"Every slot has {control[0][1]} digits; the pilot stands first, the TPC command last. Nothing is DTX.", SCALE[1]),
-                      forms.formats("Uplink DPDCH: the only field of a data slot", data, range(len(data)), SCALE[0], "A slot is its data, whichever slot of the frame it is."),
+                      forms.formats("Uplink DPCCH: the fields of a control slot", control, range(len(control)),
+                                    f"Every slot has {control[0][1]} digits; the pilot stands first, the TPC command last. Nothing is DTX.", SCALE[1]),
+                      forms.formats("Uplink DPDCH: the only field of a data slot", data, range(len(data)), SCALE[0],
+                                    "A slot is its data, whichever slot of the frame it is."),
                       (108, frame))
