@@ -9,7 +9,9 @@ import sys
 sys.dont_write_bytecode = True
 
 import cites
+import front
 import header
+import kit
 import names
 import package
 import pages
@@ -17,7 +19,7 @@ import pictures
 import promises
 import refusals
 
-CHECKS = (pages, header, package, cites, refusals, promises, pictures)
+CHECKS = (pages, front, header, package, cites, kit, refusals, promises, pictures)
 
 
 def faults(root):
