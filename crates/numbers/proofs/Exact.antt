@@ -1,6 +1,8 @@
--- The theorem of specs/Exact.antt: each call tells its verdict's number, and a verdict has the numbers of its checks.
+-- The theorem of specs/Exact.antt. No other number: each call tells its verdict's number, and a verdict has the numbers of its checks. Each number: arguments are shown for which it is given.
 -- Assumes nothing.
 use mathlib.Core.Path.{_≡_, sym}
+use mathlib.Core.Bool.{true}
+use mathlib.Core.List.{_∷_}
 use Prim.Native.Nat.{ℕ}
 use lib.ListN.{length}
 use Rattle.slt_pich.proofs.Exact.{pich-tells}
@@ -22,10 +24,19 @@ use Rattle.slt_bank.proofs.Exact.{bank-tells}
 use Rattle.slt_lengths.proofs.Exact.{lengths-tell}
 use Rattle.packed.specs.Rule.{numberIn}
 use Rattle.numbers.specs.Rule.{Call, refusals}
+use Rattle.numbers.specs.Rule as c
 use Rattle.numbers.specs.Outcome.{Answered, by-pich-q, by-pich-map, by-pich-read, by-wake-run, by-wake-step, by-slot-map, by-slot-read, by-slot-map-antenna, by-slot-read-antennas, by-frame-map, by-frame-read, by-compressed-map, by-compressed-read, by-dpdch-map, by-dpdch-read, by-dpdch-frame-map, by-dpdch-frame-read, by-dpcch-map, by-dpcch-read, by-dpcch-frame-map, by-dpcch-frame-read, by-sttd-digits, by-sttd-values, by-pccpch-map, by-pccpch-read, by-hspdsch-map, by-hspdsch-read, by-slot-lengths, by-frame-lengths, by-compressed-lengths, by-dpdch-lengths, by-dpdch-frame-lengths, by-dpcch-lengths, by-dpcch-frame-lengths, by-hspdsch-lengths, by-aich-map, by-aich-read, by-aich-map-available, by-aich-read-available, by-desk-serve, by-desk-to-aich, by-desk-to-message, by-aich-combine, by-sample-off, by-sample-shared, by-sample-each, by-bank-empty, by-bank-store, by-bank-fetch, by-bank-drop, by-bank-length, by-bank-room}
-use Rattle.numbers.specs.Exact.{listed, Gives, NoOther}
-use Rattle.numbers.proofs.Laws.{Has, told}
+use Rattle.numbers.specs.Exact.{isNumberOf, Gives, Numbers}
+use Rattle.numbers.proofs.Laws.{Has, told, Each, of-listed}
 use Rattle.numbers.proofs.Verdicts as of
+use Rattle.numbers.proofs.Paging as paging
+use Rattle.numbers.proofs.Downlink as downlink
+use Rattle.numbers.proofs.Uplink as uplink
+use Rattle.numbers.proofs.Antennas as antennas
+use Rattle.numbers.proofs.Lengths as lengths
+use Rattle.numbers.proofs.Access as access
+use Rattle.numbers.proofs.Samples as samples
+use Rattle.numbers.proofs.Banks as banks
 
 answer-has : (call : Call) (answer : ℕ) → Answered call answer → Has (refusals call) (numberIn answer)
 unfolding refusals
@@ -82,5 +93,62 @@ answer-has _ _ (by-bank-drop bank number answer after p) = told (bank-tells .dro
 answer-has _ _ (by-bank-length bank number answer p) = told (bank-tells .length-of bank number answer p) (of.bank-drop _ _)
 answer-has _ _ (by-bank-room bank answer p) = told (bank-tells .room bank answer p) (of.bank-room _)
 
-pub no-other : NoOther
+no-other : (call : Call) (number : ℕ) → Gives call number → isNumberOf call number ≡ true
 no-other call number g = rw (sym (g .number-is)) (answer-has call (g .answer) (g .answered))
+
+given : (call : Call) → Each (Gives call) (0 ∷ refusals call)
+given c.pich-q = paging.pich-q
+given c.pich-map = paging.pich-map
+given c.pich-read = paging.pich-read
+given c.wake-run = paging.wake-run
+given c.wake-step = paging.wake-step
+given c.slot-map = downlink.slot-map
+given c.slot-read = downlink.slot-read
+given c.slot-map-antenna = downlink.slot-map-antenna
+given c.slot-read-antennas = downlink.slot-read-antennas
+given c.frame-map = downlink.frame-map
+given c.frame-read = downlink.frame-read
+given c.compressed-map = downlink.compressed-map
+given c.compressed-read = downlink.compressed-read
+given c.dpdch-map = uplink.dpdch-map
+given c.dpdch-read = uplink.dpdch-read
+given c.dpdch-frame-map = uplink.dpdch-frame-map
+given c.dpdch-frame-read = uplink.dpdch-frame-read
+given c.dpcch-map = uplink.dpcch-map
+given c.dpcch-read = uplink.dpcch-read
+given c.dpcch-frame-map = uplink.dpcch-frame-map
+given c.dpcch-frame-read = uplink.dpcch-frame-read
+given c.sttd-digits = antennas.sttd-digits
+given c.sttd-values = antennas.sttd-values
+given c.pccpch-map = antennas.pccpch-map
+given c.pccpch-read = antennas.pccpch-read
+given c.hspdsch-map = antennas.hspdsch-map
+given c.hspdsch-read = antennas.hspdsch-read
+given c.slot-lengths = lengths.slot-lengths
+given c.frame-lengths = lengths.frame-lengths
+given c.compressed-lengths = lengths.compressed-lengths
+given c.dpdch-lengths = lengths.dpdch-lengths
+given c.dpdch-frame-lengths = lengths.dpdch-frame-lengths
+given c.dpcch-lengths = lengths.dpcch-lengths
+given c.dpcch-frame-lengths = lengths.dpcch-frame-lengths
+given c.hspdsch-lengths = lengths.hspdsch-lengths
+given c.aich-map = access.aich-map
+given c.aich-read = access.aich-read
+given c.aich-map-available = access.aich-map-available
+given c.aich-read-available = access.aich-read-available
+given c.desk-serve = access.desk-serve
+given c.desk-to-aich = access.desk-to-aich
+given c.desk-to-message = access.desk-to-message
+given c.aich-combine = access.aich-combine
+given c.sample-off = samples.sample-off
+given c.sample-shared = samples.sample-shared
+given c.sample-each = samples.sample-each
+given c.bank-empty = banks.bank-empty
+given c.bank-store = banks.bank-store
+given c.bank-fetch = banks.bank-fetch
+given c.bank-drop = banks.bank-drop
+given c.bank-length = banks.bank-length
+given c.bank-room = banks.bank-room
+
+pub numbers : Numbers
+numbers call number = (no-other call number, of-listed (0 ∷ refusals call) (given call) number)

@@ -1,16 +1,18 @@
 -- The number of a verdict is one of those of its checks.
 -- Assumes nothing.
-use mathlib.Core.Path.{_≡_, refl}
-use mathlib.Core.Bool.{Bool, true, false, cond}
+use mathlib.Core.Path.{_≡_, refl, subst}
+use mathlib.Core.Bool.{Bool, true, false, cond, _||_, false≢true}
 use mathlib.Core.List.{List, [], _∷_}
 use Prim.Native.Nat.{ℕ, zero, suc}
-use lib.Dec.{eqb}
+use lib.Dec.{eqb, eqb→eq}
 use Rattle.run.specs.declared.Verdict.{Verdict}
 use Rattle.run.specs.Verdicts.{refused, orElse, unless, each, lengths, chain}
 use Rattle.dpch.specs.Heads.{frameHead, slotHead}
 use Rattle.packed.specs.Rule.{numberIn}
 use Rattle.packed.specs.Exact.{Tells}
-use Rattle.numbers.specs.Exact.{listed}
+use Rattle.numbers.specs.Rule.{Call}
+use Rattle.numbers.specs.Outcome.{Answered}
+use Rattle.numbers.specs.Exact.{listed, Gives}
 
 -- a number is 0 or one of these
 abbrev pub Has : List ℕ → ℕ → Type 0
@@ -66,3 +68,24 @@ module _ {r : List ℕ} where
   pub slot-head-among : (last format slot : ℕ) (right : List Bool) → Has r 1 → Has r 2 → Has r 3 → Among r (slotHead last format slot right)
   unfolding slotHead
   slot-head-among last format slot right one two three = check-among _ 1 _ one (check-among _ 2 _ two (lengths-among right three))
+
+-- ---- numbers that are given
+-- a proof for each number of a list
+pub data Each (P : ℕ → Type 0) : List ℕ → Type 0 where
+  end : Each P []
+  _▸_ : {n : ℕ} {ns : List ℕ} → P n → Each P ns → Each P (n ∷ ns)
+
+infixr 5 _▸_
+-- .. is one for every number that is listed
+pub of-listed : {P : ℕ → Type 0} (ns : List ℕ) → Each P ns → (n : ℕ) → listed ns n ≡ true → P n
+unfolding listed
+of-listed [] end n h = absurd (false≢true h)
+of-listed {P} (m ∷ ns) (p ▸ ps) n h = pick (λ (t : listed ns n ≡ true). of-listed ns ps n t) (eqb m n) refl h
+  where
+    pick : (listed ns n ≡ true → P n) → (b : Bool) → eqb m n ≡ b → (b || listed ns n) ≡ true → P n
+    pick later true same t = subst P (eqb→eq m n (rw same tt)) p
+    pick later false other t = later t
+
+-- an answer of a call that has the number
+pub gives : {call : Call} {answer : ℕ} {number : ℕ} → Answered call answer → numberIn answer ≡ number → Gives call number
+gives a is = record { answer = _; answered = a; number-is = is }

@@ -1,7 +1,9 @@
--- Which numbers a C call can answer: 0 and those listed, and no other (docs/RULES.md, 'Numbers a call can return'). Proved in proofs/Exact.antt under its name in small letters.
+-- Which numbers a C call can answer (docs/RULES.md, 'Numbers a call can return'): 0 and those of its list, each for some arguments, and no other for any. Proved in proofs/Exact.antt under its
+-- name in small letters.
 -- Assumes nothing.
 use Prim.Native.Nat.{ℕ}
 use mathlib.Core.Path.{_≡_}
+use mathlib.Core.Logic.{_↔_}
 use mathlib.Core.Bool.{Bool, true, false, _||_}
 use mathlib.Core.List.{List, [], _∷_}
 use lib.Dec.{eqb}
@@ -24,6 +26,6 @@ pub record Gives (call : Call) (number : ℕ) : Type 0 where
   pub answered : Answered call answer
   pub number-is : numberIn answer ≡ number
 
--- a call gives no number but these
-abbrev pub NoOther : Type 0
-NoOther = (call : Call) (number : ℕ) → Gives call number → isNumberOf call number ≡ true
+-- a call gives these numbers and no other
+abbrev pub Numbers : Type 0
+Numbers = (call : Call) (number : ℕ) → Gives call number ↔ (isNumberOf call number ≡ true)
