@@ -16,7 +16,7 @@ use Rattle.sample.specs.Outcome.{levelsVerdict, takeVerdict}
 use Rattle.slt_sample.specs.declared.SltSample.{SltSample}
 use Rattle.numbers.specs.Rule as c
 use Rattle.numbers.specs.Rule.{refusals}
-use Rattle.numbers.specs.Outcome.{by-sample-off, by-sample-shared, by-sample-each}
+use Rattle.numbers.specs.Outcome as by
 use Rattle.numbers.specs.Exact.{Gives}
 use Rattle.numbers.proofs.Laws.{Each, end, _▸_, gives}
 
@@ -36,20 +36,20 @@ one = fin false 1 (pos 0)
 pub sample-off : Each (Gives c.sample-off) (0 ∷ refusals c.sample-off)
 unfolding refusals orElse unless between le isLevel levelsVerdict takeVerdict
 sample-off =
-    gives (by-sample-off (pos 16) (pos 0) 0 (answerAt (pos 16) (pos 0) Off 0) (record { answer-is = refl; inphase-is = refl; quadrature-is = refl })) refl
-    ▸ gives (by-sample-off (pos 17) (pos 0) 0 (answerAt (pos 17) (pos 0) Off 0) (record { answer-is = refl; inphase-is = refl; quadrature-is = refl })) refl
+    gives (by.sample-off (pos 16) (pos 0) 0 (answerAt (pos 16) (pos 0) Off 0) (record { answer-is = refl; inphase-is = refl; quadrature-is = refl })) refl
+    ▸ gives (by.sample-off (pos 17) (pos 0) 0 (answerAt (pos 17) (pos 0) Off 0) (record { answer-is = refl; inphase-is = refl; quadrature-is = refl })) refl
     ▸ end
 
 pub sample-shared : Each (Gives c.sample-shared) (0 ∷ refusals c.sample-shared)
 unfolding refusals orElse unless between le isLevel levelsVerdict takeVerdict
 sample-shared =
-    gives (by-sample-shared (pos 16) (pos 0) one 0 (answerAt (pos 16) (pos 0) (Shared one) 0) (record { answer-is = refl; inphase-is = refl; quadrature-is = refl })) refl
-    ▸ gives (by-sample-shared (pos 17) (pos 0) one 0 (answerAt (pos 17) (pos 0) (Shared one) 0) (record { answer-is = refl; inphase-is = refl; quadrature-is = refl })) refl
+    gives (by.sample-shared (pos 16) (pos 0) one 0 (answerAt (pos 16) (pos 0) (Shared one) 0) (record { answer-is = refl; inphase-is = refl; quadrature-is = refl })) refl
+    ▸ gives (by.sample-shared (pos 17) (pos 0) one 0 (answerAt (pos 17) (pos 0) (Shared one) 0) (record { answer-is = refl; inphase-is = refl; quadrature-is = refl })) refl
     ▸ end
 
 pub sample-each : Each (Gives c.sample-each) (0 ∷ refusals c.sample-each)
 unfolding refusals orElse unless between le isLevel levelsVerdict takeVerdict
 sample-each =
-    gives (by-sample-each (pos 16) (pos 0) one one 0 (answerAt (pos 16) (pos 0) (EachOwn one one) 0) (record { answer-is = refl; inphase-is = refl; quadrature-is = refl })) refl
-    ▸ gives (by-sample-each (pos 17) (pos 0) one one 0 (answerAt (pos 17) (pos 0) (EachOwn one one) 0) (record { answer-is = refl; inphase-is = refl; quadrature-is = refl })) refl
+    gives (by.sample-each (pos 16) (pos 0) one one 0 (answerAt (pos 16) (pos 0) (EachOwn one one) 0) (record { answer-is = refl; inphase-is = refl; quadrature-is = refl })) refl
+    ▸ gives (by.sample-each (pos 17) (pos 0) one one 0 (answerAt (pos 17) (pos 0) (EachOwn one one) 0) (record { answer-is = refl; inphase-is = refl; quadrature-is = refl })) refl
     ▸ end

@@ -1,5 +1,5 @@
--- Which numbers a C call can answer (docs/RULES.md, 'Numbers a call can return'): 0 and those of its list, each for some arguments, and no other for any. Proved in proofs/Exact.antt under its
--- name in small letters.
+-- Which numbers a C call can answer: 0 and those of its list, each for some arguments, and no other for any (docs/RULES.md, 'Numbers a call can return'). Proved in proofs/Exact.antt under
+-- its name in small letters.
 -- Assumes nothing.
 use Prim.Native.Nat.{ℕ}
 use mathlib.Core.Path.{_≡_}

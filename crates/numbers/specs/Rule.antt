@@ -1,9 +1,9 @@
--- docs/RULES.md, 'Numbers a call can return': the C calls in the order of include/slt.h, each without the prefix slt_ and with - for _, and the refusals that each can answer. docs/INTERFACE.md,
--- 'Which calls give which numbers', has the same lists as a table.
+-- docs/RULES.md, 'Numbers a call can return': the refusals that each C call can answer. docs/INTERFACE.md, 'Which calls give which numbers', has the same lists as a table.
 -- Assumes nothing.
 use Prim.Native.Nat.{ℕ}
 use mathlib.Core.List.{List, [], _∷_}
 
+-- the calls in the order of include/slt.h, each without the prefix slt_ and with - for _
 pub data Call : Type 0 where
   pich-q : Call
   pich-map : Call
