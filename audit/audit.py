@@ -8,6 +8,7 @@ import sys
 
 sys.dont_write_bytecode = True
 
+import answers
 import cites
 import header
 import names
@@ -17,7 +18,7 @@ import pictures
 import promises
 import refusals
 
-CHECKS = (pages, header, package, cites, refusals, promises, pictures)
+CHECKS = (pages, header, package, cites, refusals, answers, promises, pictures)
 
 
 def faults(root):
