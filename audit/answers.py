@@ -5,7 +5,7 @@ import re
 import header
 import refusals
 
-LISTS, PAGE, SECOND, CASES = "crates/numbers/specs/Rule.antt", "docs/INTERFACE.md", "second/src/numbers.rs", "crates/cases/stdout"
+LISTS, PAGE, SECOND, CASES, SHOWN = "crates/numbers/specs/Rule.antt", "docs/INTERFACE.md", "second/src/numbers.rs", "crates/cases/stdout", "docs/PYTHON.md"
 # No case can have it: the program `cases` reads its questions, with the job files in them, from a file of at most 65535 bytes. The comparison of job files has it.
 OVER_LONG = 20
 
@@ -53,13 +53,14 @@ def differ(path, found, wanted):
 
 
 def every(tree, lists):
-    """Every number of a list is a refusal, and every refusal is one that a call or the program gives, and that some case is refused with."""
+    """Every number of a list is a refusal, and every refusal is one that a call or the program gives, that some case is refused with, and that a call on the page of Python shows."""
     known = [number for _, number in refusals.listed(tree)[refusals.SPECS]]
     yield from (f"{LISTS}: {name} gives {number}, which is no refusal" for name, row in lists for number in row if number not in known)
     given = {number for _, row in lists for number in row} | set(refusals.column(tree, refusals.JOBFILE, "refused"))
     yield from (f"{LISTS}: no call and no job file gives {number}" for number in known if number not in given)
     tried = set(map(int, re.findall(r"\brefused (\d+) \d+", tree.text(CASES)))) | {OVER_LONG}
     yield from (f"{CASES}: no case is refused with {number}" for number in known if number not in tried)
+    yield from refusals.differ(SHOWN, refusals.column(tree, SHOWN, "No."), refusals.SPECS, known)
 
 
 def faults(tree):
