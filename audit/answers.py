@@ -8,6 +8,7 @@ import refusals
 LISTS, PAGE, SECOND, CASES, SHOWN = "crates/numbers/specs/Rule.antt", "docs/INTERFACE.md", "second/src/numbers.rs", "crates/cases/stdout", "docs/PYTHON.md"
 # No case can have it: the program `cases` reads its questions, with the job files in them, from a file of at most 65535 bytes. The comparison of job files has it.
 OVER_LONG = 20
+JOBS = "second/src/bin/jobs/main.rs"
 
 
 def numbers(text):
@@ -52,6 +53,14 @@ def differ(path, found, wanted):
             yield f"{path}: {name} gives {row}, but in {LISTS} {wanted[name]}"
 
 
+def jobs(tree):
+    """The numbers that the comparison of job files must see are those of the page of job files, and 0."""
+    said = re.search(r"^const NUMBERS: \[u16; \d+\] = \[(.*)\];$", tree.text(JOBS), re.M)
+    wanted = [0] + sorted(set(refusals.column(tree, refusals.JOBFILE, "refused")))
+    if not said or numbers(said[1]) != wanted:
+        yield f"{JOBS}: NUMBERS is not 0 and each refusal of {refusals.JOBFILE}, {wanted}"
+
+
 def every(tree, lists):
     """Every number of a list is a refusal, and every refusal is one that a call or the program gives, that some case is refused with, and that a call on the page of Python shows."""
     known = [number for _, number in refusals.listed(tree)[refusals.SPECS]]
@@ -70,4 +79,4 @@ def faults(tree):
     found += [f"{LISTS}: the list of {name} is not in order" for name, row in lists if row != sorted(set(row))]
     for path, table in ((PAGE, on_page(tree)), (f"{PAGE}, order of checks", list(in_checks(tree))), (SECOND, in_second(tree))):
         found += differ(path, table, dict(lists))
-    return found + list(every(tree, lists))
+    return found + list(jobs(tree)) + list(every(tree, lists))

@@ -57,6 +57,7 @@ PLANTS = (
     ("a number that is no refusal", "crates/numbers/specs/Rule.antt", "refusals bank-empty = 28", "refusals bank-empty = 28 ∷ 33", "slt_bank_empty"),
     ("a call that no list has", "crates/numbers/specs/Rule.antt", "refusals bank-empty = 28 ∷ []\n", "", "slt_bank_empty"),
     ("a number that no case gives", "crates/cases/stdout", "refused 12 0", "refused 11 0", "no case is refused with 12"),
+    ("a number of the comparison of job files", "second/src/bin/jobs/main.rs", "11, 20, 21,", "11, 21,", "second/src/bin/jobs/main.rs"),
     ("a number that no call on a page gives", "docs/PYTHON.md", "\n| 32 | 0 | `slt.wake_run(", "\n| 31 | 0 | `slt.wake_run(", "docs/PYTHON.md: refusal 3"),
     ("a crate that a picture lacks", "crates.txt", "\nslotline: run", "\nslotlines: run", ""),
     ("a line of a picture", "docs/slots.svg", "format 16", "format 17", "docs/slots.svg"),
