@@ -1,7 +1,7 @@
 -- Arguments for which the calls of the AICH, of the random access desk and of the combiner give each of their numbers, in the order of the list. All fit the types of include/slt.h.
 -- Assumes nothing.
 use mathlib.Core.Path.{refl}
-use mathlib.Core.List.{List, [], _∷_, _++_}
+use mathlib.Core.List.{List, [], _∷_}
 use Prim.Native.Nat.{ℕ}
 use lib.ListN.{replicate}
 use lib.IntN.{ℤ, pos}

@@ -1,8 +1,7 @@
 -- Arguments for which the calls of the STTD encoder, the P-CCPCH and the HS-PDSCH give each of their numbers, in the order of the list. All fit the types of include/slt.h.
 -- Assumes nothing.
 use mathlib.Core.Path.{refl}
-use mathlib.Core.List.{List, [], _∷_, _++_}
-use Prim.Native.Nat.{ℕ}
+use mathlib.Core.List.{[], _∷_}
 use lib.ListN.{replicate}
 use lib.IntN.{pos}
 use Rattle.run.specs.First.{firstBad}

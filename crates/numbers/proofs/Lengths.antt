@@ -1,9 +1,7 @@
 -- Arguments for which the calls of the lengths of a mapper's runs give each of their numbers, in the order of the list. All fit the types of include/slt.h.
 -- Assumes nothing.
 use mathlib.Core.Path.{refl}
-use mathlib.Core.List.{List, [], _∷_, _++_}
-use Prim.Native.Nat.{ℕ}
-use lib.ListN.{replicate}
+use mathlib.Core.List.{_∷_}
 use Rattle.run.specs.First.{firstBad}
 use Rattle.run.specs.Verdicts.{orElse, unless, each, leaves, lengths}
 use Rattle.dpch.specs.Formats.{formats, formatOf}

@@ -1,8 +1,7 @@
 -- Arguments for which the calls of the uplink DPDCH and DPCCH give each of their numbers, in the order of the list. All fit the types of include/slt.h.
 -- Assumes nothing.
 use mathlib.Core.Path.{refl}
-use mathlib.Core.List.{List, [], _∷_, _++_}
-use Prim.Native.Nat.{ℕ}
+use mathlib.Core.List.{[], _∷_, _++_}
 use lib.ListN.{replicate}
 use Rattle.run.specs.Fields.{cut, field, joined, start, total}
 use Rattle.run.specs.First.{firstBad}

@@ -1,8 +1,8 @@
 -- The numbers of each call's verdict, check by check. Where calls have a part in common, its numbers are asked to be among those of the call.
 -- Assumes nothing.
-use mathlib.Core.Path.{_≡_, refl}
+use mathlib.Core.Path.{refl}
 use mathlib.Core.Bool.{Bool, true, false, cond}
-use mathlib.Core.List.{List, [], _∷_}
+use mathlib.Core.List.{List, []}
 use Prim.Native.Nat.{ℕ, _*_}
 use lib.IntN.{ℤ}
 use Rattle.run.specs.declared.Verdict.{Verdict}
