@@ -8,6 +8,7 @@ import sys
 
 sys.dont_write_bytecode = True
 
+import answers
 import cites
 import front
 import header
@@ -19,7 +20,7 @@ import pictures
 import promises
 import refusals
 
-CHECKS = (pages, front, header, package, cites, kit, refusals, promises, pictures)
+CHECKS = (pages, front, header, package, cites, kit, refusals, answers, promises, pictures)
 
 
 def faults(root):

@@ -1,8 +1,8 @@
 //! Counts the comparisons and ends the run at the first difference.
 
 use crate::answer::Answer;
+use crate::numbers::Seen;
 use crate::random::mixed;
-use std::collections::BTreeMap;
 use std::fmt::Debug;
 
 /// How many elements of a run a message shows.
@@ -10,13 +10,13 @@ const SHOWN: usize = 40;
 
 pub struct Judge {
     comparisons: u64,
-    /// How often each number was expected of each call.
-    seen: BTreeMap<(&'static str, u16), u64>,
+    /// The numbers that were expected of each call.
+    seen: Seen,
 }
 
 impl Judge {
     pub fn new() -> Judge {
-        Judge { comparisons: 0, seen: BTreeMap::new() }
+        Judge { comparisons: 0, seen: Seen::new() }
     }
 
     pub fn comparisons(&self) -> u64 {
@@ -38,7 +38,7 @@ impl Judge {
         runs: [Option<String>; RUNS],
     ) {
         self.comparisons += 1;
-        *self.seen.entry((call, expected.number)).or_insert(0) += 1;
+        self.seen.entry(call).or_default().insert(expected.number);
         let wrong_run = runs.into_iter().flatten().next();
         if expected == got && wrong_run.is_none() {
             return;
@@ -51,9 +51,14 @@ impl Judge {
         std::process::exit(1);
     }
 
-    /// A comparison that never reaches one of a call's numbers proves nothing about it: that ends the run too.
+    /// The numbers that were expected of each call, all equal to those that the library gave.
+    pub fn seen(&self) -> &Seen {
+        &self.seen
+    }
+
+    /// Ends the run where a call was not compared on just these numbers so far.
     pub fn must_have_seen(&self, call: &'static str, numbers: &[u16]) {
-        let seen: Vec<u16> = self.seen.keys().filter(|key| key.0 == call).map(|key| key.1).collect();
+        let seen: Vec<u16> = self.seen.get(call).into_iter().flatten().copied().collect();
         if seen != numbers {
             println!("INCOMPLETE: {call} was to be compared on the numbers {numbers:?}, but was on {seen:?}");
             std::process::exit(1);

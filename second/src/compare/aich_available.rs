@@ -20,8 +20,6 @@ pub fn all(judge: &mut Judge) {
     out_of_range_and_outside(judge);
     given_by_none_and_outside(judge);
     wrong_lengths(judge);
-    judge.must_have_seen("slt_aich_map_available", &[0, 3, 11, 26]);
-    judge.must_have_seen("slt_aich_read_available", &[0, 3, 10, 26]);
 }
 
 // One call each, compared.

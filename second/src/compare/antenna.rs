@@ -31,8 +31,6 @@ pub fn all(judge: &mut Judge) {
             single_damage(judge, number);
         }
     }
-    judge.must_have_seen("slt_slot_map_antenna", &[0, 1, 2, 3, 4, 5, 6, 11]);
-    judge.must_have_seen("slt_slot_read_antennas", &[0, 1, 2, 3, 4, 5, 6, 7, 9]);
 }
 
 // One call each, compared.

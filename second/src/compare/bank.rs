@@ -29,12 +29,6 @@ pub fn all(judge: &mut Judge) {
     full_banks(judge);
     rooms(judge);
     orders(judge);
-    judge.must_have_seen("slt_bank_empty", &[0, 28]);
-    judge.must_have_seen("slt_bank_store", &[0, 3, 4, 11, 28, 30, 31]);
-    judge.must_have_seen("slt_bank_fetch", &[0, 3, 11, 28, 29]);
-    judge.must_have_seen("slt_bank_drop", &[0, 11, 28, 29]);
-    judge.must_have_seen("slt_bank_length", &[0, 11, 28, 29]);
-    judge.must_have_seen("slt_bank_room", &[0, 28]);
 }
 
 // One call each, compared with what is expected of it. Those that are lent the bank for writing answer the bytes it leaves.

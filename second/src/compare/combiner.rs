@@ -31,7 +31,6 @@ pub fn all(judge: &mut Judge) {
     zero_gains(judge);
     wrong_lengths(judge);
     fault_sets(judge);
-    judge.must_have_seen("slt_aich_combine", &[0, 3, 11, 12]);
 }
 
 // One call, compared.

@@ -37,8 +37,6 @@ pub fn all(judge: &mut Judge) {
     }
     no_row(judge);
     huge_numbers(judge);
-    judge.must_have_seen("slt_compressed_map", &[0, 1, 3, 4, 5, 6, 27]);
-    judge.must_have_seen("slt_compressed_read", &[0, 1, 3, 4, 5, 6, 7, 9, 27]);
 }
 
 /// The formats and kinds that the table has.

@@ -31,9 +31,6 @@ pub fn all(judge: &mut Judge) {
     waits(judge);
     refused(judge);
     distances(judge);
-    judge.must_have_seen("slt_desk_serve", &[0, 3, 11]);
-    judge.must_have_seen("slt_desk_to_aich", &[0, 11]);
-    judge.must_have_seen("slt_desk_to_message", &[0, 11]);
 }
 
 // One call, compared.

@@ -29,8 +29,6 @@ pub fn all(judge: &mut Judge) {
         other_format(judge, format);
     }
     bad_formats(judge);
-    judge.must_have_seen("slt_hspdsch_map", &[0, 1, 3, 4]);
-    judge.must_have_seen("slt_hspdsch_read", &[0, 1, 3, 4, 9]);
 }
 
 // One call each, compared.

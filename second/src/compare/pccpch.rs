@@ -23,8 +23,6 @@ pub fn all(judge: &mut Judge) {
     read_gaps(judge);
     read_random(judge);
     read_lengths(judge);
-    judge.must_have_seen("slt_pccpch_map", &[0, 3, 4]);
-    judge.must_have_seen("slt_pccpch_read", &[0, 3, 4, 9]);
 }
 
 // One call each, compared.

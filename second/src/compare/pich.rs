@@ -41,9 +41,6 @@ pub fn all(judge: &mut Judge) {
     }
     bad_np(judge);
     every_set_of_18(judge);
-    judge.must_have_seen("slt_pich_q", &[0, 8, 11]);
-    judge.must_have_seen("slt_pich_map", &[0, 3, 4, 8]);
-    judge.must_have_seen("slt_pich_read", &[0, 3, 4, 8, 9]);
 }
 
 // One call each, compared.

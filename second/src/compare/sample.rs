@@ -47,9 +47,6 @@ pub fn all(judge: &mut Judge) {
     bad_antennas(judge);
     two_faults(judge);
     fault_sets(judge);
-    for call in ["slt_sample_off", "slt_sample_shared", "slt_sample_each"] {
-        judge.must_have_seen(call, &[0, 11]);
-    }
 }
 
 // One call each, compared.

@@ -34,8 +34,6 @@ pub fn all(judge: &mut Judge) {
     wrong_numbers(judge);
     wrong_lengths(judge);
     two_runs(judge);
-    judge.must_have_seen("slt_wake_run", &[0, 3, 4, 8, 9, 11, 32]);
-    judge.must_have_seen("slt_wake_step", &[0, 3, 4, 8, 9, 11, 32]);
 }
 
 // One call each, compared.

@@ -58,10 +58,6 @@ pub fn all(judge: &mut Judge) {
     }
     frames::bad_formats(judge);
     // 6 is none of them.
-    judge.must_have_seen("slt_dpcch_map", &[0, 1, 2, 3, 4, 5]);
-    judge.must_have_seen("slt_dpcch_read", &[0, 1, 2, 3, 4, 5, 7]);
-    judge.must_have_seen("slt_dpcch_frame_map", &[0, 1, 3, 4, 5]);
-    judge.must_have_seen("slt_dpcch_frame_read", &[0, 1, 3, 4, 5, 7]);
 }
 
 // One call of a slot each, compared.
