@@ -24,6 +24,7 @@ PLANTS = (
     ("a theorem of another crate", "docs/DEMAND3.md", "`rows` of `signature`", "`rows` of `pich`", "rows"),
     ("a theorem of another file", "docs/INTERFACE.md", "`unpacks` in `crates/packed/", "`packs` in `crates/packed/", "packs"),
     ("a theorem of a row", "docs/PROMISES.md", "`frame-filled` (each", "`read-exakt` (each", "read-exakt"),
+    ("the one outcome of a part", "docs/PROMISES.md", "how many digits it has; `parts-once`", "how many digits it has", "bank_find::find"),
     ("a definition", "docs/DEMAND3.md", "`valuesOf`", "`valuesFor`", "valuesFor"),
     ("an edit", "docs/DEMAND3.md", "`gains_after_12`", "`wrong_partner`", "wrong_partner"),
     ("an edit of another crate", "docs/PROMISES.md", "`tail_as_zero`", "`tail_of_zeros`", "tail_"),

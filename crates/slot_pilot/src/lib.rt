@@ -66,11 +66,15 @@ pub fn write_pilot(dst: &mut [u8], kind: usize, slot: usize)
     }
 }
 
-// .. on antenna 2 in the normal formats, where the pilot of four bits is not the beginning of the others.
+// .. on antenna 2 in the normal formats, where the pilot of four bits begins with that of two and is not the beginning of the longer ones.
 pub fn write_second(dst: &mut [u8], slot: usize)
     ensures { λ _. ⌜ now (dst .exit) ≡ over (secondSource (length (now (dst .entry))) slot) (now (dst .entry)) ⌝ }
 {
     match dst.len() {
+        2 => {
+            let two = dpch::pilot_four(slot);
+            copy_n(dst, &two, 2)
+        }
         4 => {
             let four = dpch::pilot_four(slot);
             copy_n(dst, &four, 4)
