@@ -1,4 +1,4 @@
--- `bank::are_digits` meets its contract: parts of sixteen that pass, and the last part decides.
+-- `bank_front::are_digits` meets its contract: parts of sixteen that pass, and the last part decides.
 -- Assumes nothing.
 use mathlib.Core.Path.{_≡_, refl, sym, ap, _∙_}
 use mathlib.Core.Bool.{_&&_}
@@ -13,9 +13,9 @@ use lib.Dec.{leb}
 use lib.ListN.{length, take, drop}
 use Rattle.run.specs.First.{all, Every, atMost}
 use Rattle.run.proofs.Lent.{part-width}
 use Rattle.bank.proofs.Digits.{part-told, part-good, part-bad, part-last}
-use Rattle.bank.proofs.are_digits.Statement.{statement}
-use Rattle.bank.proofs.are_digits.Tie as tie
+use Rattle.bank_front.proofs.are_digits.Statement.{statement}
+use Rattle.bank_front.proofs.are_digits.Tie as tie
 
 abbrev Inv-loop : tie.InvT-loop
 Inv-loop s n i₀ i = (i ≤ length s) × Every (atMost 2 s) i × (n ≡ length s)

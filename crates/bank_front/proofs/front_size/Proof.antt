@@ -1,4 +1,4 @@
--- `bank::front_size` meets its contract: a slot stands there exactly when each test passes.
+-- `bank_front::front_size` meets its contract: a slot stands there exactly when each test passes.
 -- Assumes nothing.
 use borrow.Author.Needs.{needs}
 use mathlib.Core.Path.{_≡_, sym, ap, _∙_}
@@ -11,11 +11,11 @@ use denote.Ref.{now}
 use lib.ListN.{length, take, drop}
 use Rattle.run.specs.First.{all, atMost}
 use Rattle.run.proofs.Lent.{part-width}
 use Rattle.bank.specs.Slots.{isLength}
 use Rattle.bank.specs.Layout.{lengthIn}
 use Rattle.bank.proofs.Front.{length-low, length-there, length-known, digits-long, size-there, size-none}
-use Rattle.bank.proofs.front_size.Statement.{statement}
-use Rattle.bank.proofs.front_size.Tie as tie
+use Rattle.bank_front.proofs.front_size.Statement.{statement}
+use Rattle.bank_front.proofs.front_size.Tie as tie
 
 front-length-requires : tie.Need-front-length-requires
 front-length-requires c κs = search needs
