@@ -28,7 +28,7 @@ fn end(rest: &[u8], limit: u32, at: u32, size: usize) -> Verdict
 {
     let n = rest.len();
     let behind = shorter(size, n);
-    job::end(&rest[behind..n], at + small(behind), limit)
+    job_check::end(&rest[behind..n], at + small(behind), limit)
 }
 
 // The record at an offset, and what follows it.

@@ -32,7 +32,7 @@ fn stretch_differs(format: usize, antenna1: &[u8], antenna2: &[u8]) -> usize
 {
     let mut given = [0u8; 64];
     hspdsch::encode(format, antenna1, &mut given);
-    scan::first_diff(&given, antenna2)
+    scan_diff::first_diff(&given, antenna2)
 }
 
 // Where antenna 2 first differs from what antenna 1 gives, stretch after stretch.

@@ -16,7 +16,7 @@ use Rattle.run.specs.Verdicts.{done}
 use Rattle.run.proofs.Chain.{or-else-pass, unless-pass, each-pass, leaves-done, number-0}
 use Rattle.run.proofs.First.{first-le, first-in-part, part-passes, first-in-last, none-first}
 use Rattle.run.proofs.Lent.{part-length, part-at}
-use Rattle.scan.proofs.Laws.{found-same}
+use Rattle.scan_diff.proofs.Laws.{found-same}
 use Rattle.pich.specs.Rule.{isNp, width, frameOf, indicatorsIn}
 use Rattle.pich.specs.Outcome.{mapVerdict, stands, readVerdict, Read}
 use Rattle.pich.specs.Exact.{Gives}

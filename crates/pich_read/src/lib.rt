@@ -27,13 +27,13 @@ fn first_misfit(np: usize, frame: &[u8]) -> usize
     while q < np {
         let start = first_digit(np, Indicator(q));
         let end = start + width;
-        let i = scan::first_unlike(&frame[start..end]);
+        let i = scan_equal::first_unlike(&frame[start..end]);
         if i < width {
             return start + i;
         }
         q += 1;
     }
-    288 + scan::first_other(&frame[288..300], DTX)
+    288 + scan_equal::first_other(&frame[288..300], DTX)
 }
 
 fn read_head(np: usize, frame: &[u8], indicators_length: usize) -> Verdict
@@ -155,7 +155,7 @@ fn keep(np: usize, frame: &[u8], found: &[u8], indicators: &mut [u8]) -> bool
         return false;
     }
     let tail = [DTX; 12];
-    if scan::first_diff(&frame[288..300], &tail) < 12 {
+    if scan_diff::first_diff(&frame[288..300], &tail) < 12 {
         return false;
     }
     write::copy(indicators, found);

@@ -25,14 +25,14 @@ fn copy_n(dst: &mut [u8], src: &[u8], n: usize)
 fn write_plain(dst: &mut [u8], slot: usize)
     ensures { λ _. ⌜ now (dst .exit) ≡ over (pilotSource (length (now (dst .entry))) slot) (now (dst .entry)) ⌝ }
 {
-    let row = dpch::pilot_row(0, slot);
+    let row = dpch_pilot::pilot_row(0, slot);
     match dst.len() {
         2 => copy_n(dst, &row[2..4], 2),
         4 => copy_n(dst, &row, 4),
         8 => copy_n(dst, &row, 8),
         16 => copy_n(dst, &row, 16),
         _ => {
-            let other = dpch::pilot_row(0, slot);
+            let other = dpch_pilot::pilot_row(0, slot);
             write::copy(dst, &other)
         }
     }
@@ -72,23 +72,23 @@ pub fn write_second(dst: &mut [u8], slot: usize)
 {
     match dst.len() {
         2 => {
-            let two = dpch::pilot_four(slot);
+            let two = dpch_four::pilot_four(slot);
             copy_n(dst, &two, 2)
         }
         4 => {
-            let four = dpch::pilot_four(slot);
+            let four = dpch_four::pilot_four(slot);
             copy_n(dst, &four, 4)
         }
         8 => {
-            let eight = dpch::pilot_row(1, slot);
+            let eight = dpch_pilot::pilot_row(1, slot);
             copy_n(dst, &eight, 8)
         }
         16 => {
-            let row = dpch::pilot_row(1, slot);
+            let row = dpch_pilot::pilot_row(1, slot);
             copy_n(dst, &row, 16)
         }
         _ => {
-            let other = dpch::pilot_row(1, slot);
+            let other = dpch_pilot::pilot_row(1, slot);
             write::copy(dst, &other)
         }
     }

@@ -17,7 +17,7 @@ fn read_verdict(
 ) -> Verdict
     ensures { λ r. ⌜ r ≡ readVerdict format slot (now (xs .entry)) «data_length» «tfci_length» ⌝ }
 {
-    let head = slot::read_head(format, slot, xs.len(), data_length, tfci_length);
+    let head = slot_heads::read_head(format, slot, xs.len(), data_length, tfci_length);
     if head.number != 0 {
         return head;
     }
@@ -28,7 +28,7 @@ fn read_verdict(
 pub fn take(format: usize, slot: usize, xs: &[u8], data: &mut [u8], tfci: &mut [u8]) -> Command
     ensures { λ r. ⌜ Take format slot (now (xs .entry)) (now («data» .entry)) (now (tfci .entry)) r (now («data» .exit)) (now (tfci .exit)) ⌝ }
 {
-    let head = slot::read_head(format, slot, xs.len(), data.len(), tfci.len());
+    let head = slot_heads::read_head(format, slot, xs.len(), data.len(), tfci.len());
     if head.number != 0 {
         return Command {
             verdict: head,
