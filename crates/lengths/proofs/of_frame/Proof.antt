@@ -14,7 +14,12 @@ frame-head-requires : tie.Need-frame-head-requires
 frame-head-requires c κs = search needs
 
 tell-frame-requires : tie.Need-tell-frame-requires
-tell-frame-requires c κs = let s = c .before .sizes-of .ensures in (omega arith, s .data-short, s .tfci-short, s .slot-short)
+tell-frame-requires c κs =
+    let s = c .before .sizes-of .ensures in
+    let d = s .data-short in
+    let t = s .tfci-short in
+    let w = s .slot-short in
+    (omega arith, omega arith, omega arith, omega arith)
 
 returns : tie.Need-returns
 unfolding frameLengths
