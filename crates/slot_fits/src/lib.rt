@@ -8,7 +8,7 @@ ghost use mathlib.Core.Bool.{_&&_};
 ghost use Prim.Native.Nat.{_≤_};
 ghost use lib.Dec.{eqb};
 ghost use lib.ListN.{length};
-ghost use Rattle.run.specs.First.{all, isAt, likeFirst, agree};
+ghost use Rattle.run.specs.First.{all, atMost, isAt, likeFirst, agree};
 ghost use Rattle.dpch.specs.Formats.{normal, kindB, formatOf};
 ghost use Rattle.dpch.specs.Pilots.{pilotOf};
 ghost use Rattle.dpch.specs.Compressed.{formatIn, pilotFor};
@@ -118,6 +118,17 @@ fn is_pilot(s: &[u8], kind: usize, slot: usize) -> bool
     }
 }
 
+// Whether no digit is above DTX. A loop of any length goes 32 digits at a time and then four: slots that leave some over are worth a look whose length is a number.
+fn are_digits(s: &[u8]) -> bool
+    ensures { λ r. ⌜ r ≡ all (length (now (s .entry))) (atMost 2 (now (s .entry))) ⌝ }
+{
+    match s.len() {
+        40 => scan::all_at_most(s, 2, 40),
+        80 => scan::all_at_most(s, 2, 80),
+        _ => s.len() <= scan::first_above(s, 2),
+    }
+}
+
 // Each field in its own stretch, and all digits together.
 fn fields_fit(f: Format, slot: usize, xs: &[u8]) -> bool
     requires { ⌜ Whole f (length (now xs)) × PilotWidth (f .kind) (f .pilot) ⌝ }
@@ -131,7 +142,7 @@ fn fields_fit(f: Format, slot: usize, xs: &[u8]) -> bool
     let last = is_pilot(&xs[d..e], f.kind, slot);
     let kinds = both(slot_tfci::is_tfci(&xs[b..c]), last);
     let commands = both(is_command(&xs[a..b]), kinds);
-    both(xs.len() <= scan::first_above(xs, 2), commands)
+    both(are_digits(xs), commands)
 }
 
 // Whether the run is a slot of the format and no check of its digits refuses it.

@@ -1,4 +1,4 @@
--- `sttd_digits::encode_digits` meets its contract: each turn writes four blocks more from the front on, and the last part those that are left.
+-- `sttd_digits::encode_digits` meets its contract: each turn writes two blocks more from the front on, and the last part the one that is left.
 -- Assumes nothing.
 use mathlib.Core.Path.{_≡_, refl, sym, _∙_}
 use mathlib.Core.List.{List}
@@ -29,6 +29,14 @@ ready input out a e ok f h l m d =
     let p = parts-lent input a e f h l m in
     (rw (p .0) d, p .1 ∙ sym (p .0), part-digits input a (e - a) ok)
 
+-- .. and `encode_two` of the two from a on
+ready-two : (input : List ℕ) {t out₀ : List ℕ} (out : List ℕ) (a : ℕ) → Every (atMost 2 input) (length input) → Front t out₀ out a → a + 8 ≤ length input → a + 8 ≤ length out₀
+    → (length (take (a + 8 - a) (drop a input)) ≡ 8) × (length (midOf a (a + 8 - a) out) ≡ 8) × Every (atMost 2 (take (a + 8 - a) (drop a input))) (length (take (a + 8 - a) (drop a input)))
+ready-two input out a ok f l m =
+    let p = parts-lent input a (a + 8) f (omega arith) l m in
+    let w : a + 8 - a ≡ 8 = omega arith in
+    (p .0 ∙ w, p .1 ∙ w, part-digits input a (a + 8 - a) ok)
+
 shorter-requires : tie.Need-shorter-requires Inv-loop μ-loop
 shorter-requires c κs = search needs
 
@@ -43,6 +51,43 @@ sub-loop c = omega arith
 
 add-e : tie.Need-add-e Inv-loop μ-loop
 add-e c = omega arith
+
+sub-encode-two : tie.Need-sub-encode-two Inv-loop μ-loop
+sub-encode-two c = omega arith
+
+part-encode-two-start : tie.Need-part-encode-two-start Inv-loop μ-loop
+part-encode-two-start c = omega arith
+
+part-encode-two-end : tie.Need-part-encode-two-end Inv-loop μ-loop
+part-encode-two-end c = omega arith
+
+sub-encode-two-2 : tie.Need-sub-encode-two-2 Inv-loop μ-loop
+sub-encode-two-2 c = omega arith
+
+part-encode-two-start-2 : tie.Need-part-encode-two-start-2 Inv-loop μ-loop
+part-encode-two-start-2 c = omega arith
+
+part-encode-two-end-2 : tie.Need-part-encode-two-end-2 Inv-loop μ-loop
+part-encode-two-end-2 c = omega (arith, front-length (c .before .before .loop .inv .2))
+
+encode-two-requires : tie.Need-encode-two-requires Inv-loop μ-loop
+encode-two-requires c κs =
+    let head = c .before .before .before in
+    let start = head .before .before .before .before in
+    ready-two _ _ (head .loop .i) (start .pre) (head .loop .inv .2) (omega arith) (omega arith)
+
+loop-less : tie.Need-loop-less Inv-loop μ-loop
+loop-less c = omega arith
+
+loop-again : tie.Need-loop-again Inv-loop μ-loop
+loop-again c =
+    let turn = c .before .before .before .before .before in
+    let head = turn .before in (
+      omega arith,
+      omega arith,
+      encoded-part _ _ (head .loop .i + 8) (head .before .shorter .ensures) (head .loop .inv .0) (omega arith) (omega arith) (omega arith) (head .loop .inv .2)
+          (c .before .before .encode-two .ensures),
+    )
 
 sub-encode-blocks : tie.Need-sub-encode-blocks Inv-loop μ-loop
 sub-encode-blocks c = omega arith
@@ -66,43 +111,6 @@ encode-blocks-requires : tie.Need-encode-blocks-requires Inv-loop μ-loop
 encode-blocks-requires c κs =
     let head = c .before .before .before in
     let start = head .before .before .before .before in
-    ready _ _ (head .loop .i) (head .loop .i + 16) (start .pre) (head .loop .inv .2) (omega arith) (omega arith) (omega arith) (omega arith)
-
-loop-less : tie.Need-loop-less Inv-loop μ-loop
-loop-less c = omega arith
-
-loop-again : tie.Need-loop-again Inv-loop μ-loop
-loop-again c =
-    let turn = c .before .before .before .before .before in
-    let head = turn .before in (
-      omega arith,
-      omega arith,
-      encoded-part _ _ (head .loop .i + 16) (head .before .shorter .ensures) (head .loop .inv .0) (omega arith) (omega arith) (omega arith) (head .loop .inv .2)
-          (c .before .before .encode-blocks .ensures),
-    )
-
-sub-encode-blocks-3 : tie.Need-sub-encode-blocks-3 Inv-loop μ-loop
-sub-encode-blocks-3 c = omega arith
-
-part-encode-blocks-start-3 : tie.Need-part-encode-blocks-start-3 Inv-loop μ-loop
-part-encode-blocks-start-3 c = omega arith
-
-part-encode-blocks-end-3 : tie.Need-part-encode-blocks-end-3 Inv-loop μ-loop
-part-encode-blocks-end-3 c = omega arith
-
-sub-encode-blocks-4 : tie.Need-sub-encode-blocks-4 Inv-loop μ-loop
-sub-encode-blocks-4 c = omega arith
-
-part-encode-blocks-start-4 : tie.Need-part-encode-blocks-start-4 Inv-loop μ-loop
-part-encode-blocks-start-4 c = omega arith
-
-part-encode-blocks-end-4 : tie.Need-part-encode-blocks-end-4 Inv-loop μ-loop
-part-encode-blocks-end-4 c = omega (arith, front-length (c .before .before .loop .inv .2))
-
-encode-blocks-requires-2 : tie.Need-encode-blocks-requires-2 Inv-loop μ-loop
-encode-blocks-requires-2 c κs =
-    let head = c .before .before .before in
-    let start = head .before .before .before .before in
     ready _ _ (head .loop .i) _ (start .pre) (head .loop .inv .2) (omega arith) (omega arith) (omega arith) (omega arith)
 
 same-length : tie.Need-same-length Inv-loop μ-loop
@@ -113,7 +121,7 @@ returns c =
     let head = c .before .before .before .before .before .before in
     let is = head .before .shorter .ensures in
     encoded-end _ _ is refl
-    (encoded-part _ _ _ is (head .loop .inv .0) (omega arith) (omega arith) (omega arith) (head .loop .inv .2) (c .before .before .encode-blocks2 .ensures))
+    (encoded-part _ _ _ is (head .loop .inv .0) (omega arith) (omega arith) (omega arith) (head .loop .inv .2) (c .before .before .encode-blocks .ensures))
 
 pub encode-digits-spec : {M : Type 1} → statement M
 encode-digits-spec =
@@ -126,6 +134,15 @@ encode-digits-spec =
     loop-holds
     sub-loop
     add-e
+    sub-encode-two
+    part-encode-two-start
+    part-encode-two-end
+    sub-encode-two-2
+    part-encode-two-start-2
+    part-encode-two-end-2
+    encode-two-requires
+    loop-less
+    loop-again
     sub-encode-blocks
     part-encode-blocks-start
     part-encode-blocks-end
@@ -133,14 +150,5 @@ encode-digits-spec =
     part-encode-blocks-start-2
     part-encode-blocks-end-2
     encode-blocks-requires
-    loop-less
-    loop-again
-    sub-encode-blocks-3
-    part-encode-blocks-start-3
-    part-encode-blocks-end-3
-    sub-encode-blocks-4
-    part-encode-blocks-start-4
-    part-encode-blocks-end-4
-    encode-blocks-requires-2
     same-length
     returns)
