@@ -17,10 +17,9 @@ mod compare;
 #[allow(unsafe_code)]
 mod ffi;
 mod judge;
-mod lent;
 
 use judge::Judge;
-use second::{answer, fields, laws, random, rules};
+use second::{answer, fields, laws, lent, random, rules};
 
 /// The name of a channel and what runs all of its comparisons.
 type Channel = (&'static str, fn(&mut Judge));
