@@ -30,33 +30,18 @@ impl Element for u8 {
     }
 }
 
-impl Element for i32 {
-    /// Far beyond every value and indicator.
-    fn pattern(salt: u64, index: usize) -> i32 {
-        0x5a5a_5a00 | five_bits(salt, index) as i32
-    }
+/// Numbers hold one that is far beyond every value, indicator, signature, count, SFN and result.
+macro_rules! far_beyond {
+    ($($number:ty: $far:literal),*) => {
+        $(impl Element for $number {
+            fn pattern(salt: u64, index: usize) -> $number {
+                $far | five_bits(salt, index) as $number
+            }
+        })*
+    };
 }
 
-impl Element for u32 {
-    /// Far beyond every SFN, and not where a count ends.
-    fn pattern(salt: u64, index: usize) -> u32 {
-        0x5a5a_5a00 | five_bits(salt, index) as u32
-    }
-}
-
-impl Element for i64 {
-    /// Far beyond every result of the combiner.
-    fn pattern(salt: u64, index: usize) -> i64 {
-        0x5a5a_5a5a_5a5a_5a00 | five_bits(salt, index) as i64
-    }
-}
-
-impl Element for usize {
-    /// Far beyond every signature.
-    fn pattern(salt: u64, index: usize) -> usize {
-        0x5a5a_5a00 | five_bits(salt, index) as usize
-    }
-}
+far_beyond!(i32: 0x5a5a_5a00, u32: 0x5a5a_5a00, usize: 0x5a5a_5a00, i64: 0x5a5a_5a5a_5a5a_5a00);
 
 /// A run that is lent for one call: its name, what it holds, and what it must hold after the call.
 pub struct Lent<'a, T> {
