@@ -1,12 +1,9 @@
 //! Counts the comparisons and ends the run at the first difference.
 
 use crate::answer::Answer;
+use crate::lent::{Element, Judged, Lent};
 use crate::numbers::Seen;
 use crate::random::mixed;
-use std::fmt::Debug;
-
-/// How many elements of a run a message shows.
-const SHOWN: usize = 40;
 
 pub struct Judge {
     comparisons: u64,
@@ -24,27 +21,44 @@ impl Judge {
     }
 
     /// A number that is different for every call; it colours the patterns of the lent buffers.
-    pub fn salt(&self) -> u64 {
+    fn salt(&self) -> u64 {
         mixed(self.comparisons)
     }
 
-    /// Compares one call. `inputs` says in words what was passed; `runs` holds what is wrong with each lent run.
+    /// A run that the library reads.
+    pub fn given<T: Element>(&self, name: &'static str, run: Option<&[T]>) -> Lent<'static, T> {
+        Lent::holding(name, run, None, self.salt())
+    }
+
+    /// A run that the library reads and is to change to `due`.
+    pub fn changed<'a, T: Element>(&self, name: &'static str, run: Option<&[T]>, due: Option<&'a [T]>) -> Lent<'a, T> {
+        Lent::holding(name, run, due, self.salt())
+    }
+
+    /// A run of the given length in which the library is to write `due`, or nothing at all where there is none.
+    pub fn room<'a, T: Element>(&self, name: &'static str, length: Option<usize>, due: Option<&'a [T]>) -> Lent<'a, T> {
+        Lent::room(name, length, due, self.salt())
+    }
+
+    /// Compares one call. `numbers` says in words what was passed beside the runs, which know by themselves what they held
+    /// and what they are to hold now.
     pub fn compare<const RUNS: usize>(
         &mut self,
         call: &'static str,
-        inputs: impl Fn() -> String,
+        numbers: impl Fn() -> String,
         expected: Answer,
         got: Answer,
-        runs: [Option<String>; RUNS],
+        runs: [&dyn Judged; RUNS],
     ) {
         self.comparisons += 1;
         self.seen.entry(call).or_default().insert(expected.number);
-        let wrong_run = runs.into_iter().flatten().next();
+        let wrong_run = runs.iter().find_map(|run| run.wrong());
         if expected == got && wrong_run.is_none() {
             return;
         }
         println!("DIFFERENCE in {call}, comparison {}", self.comparisons);
-        println!("  inputs:   {}", inputs());
+        println!("  numbers:  {}", numbers());
+        runs.iter().for_each(|run| println!("  lent:     {}", run.in_words()));
         println!("  expected: {expected}");
         println!("  got:      {got}");
         println!("  runs:     {}", wrong_run.unwrap_or("as expected".to_string()));
@@ -63,22 +77,5 @@ impl Judge {
             println!("INCOMPLETE: {call} was to be compared on the numbers {numbers:?}, but was on {seen:?}");
             std::process::exit(1);
         }
-    }
-}
-
-/// A run in words, shortened.
-pub fn shortened<T: Debug>(run: Option<&[T]>) -> String {
-    match run {
-        None => "NULL".to_string(),
-        Some(all) if all.len() <= SHOWN => format!("{all:?}"),
-        Some(all) => format!("{:?} and {} more", &all[..SHOWN], all.len() - SHOWN),
-    }
-}
-
-/// The room of a run in words.
-pub fn room_in_words(length: Option<usize>) -> String {
-    match length {
-        None => "NULL".to_string(),
-        Some(elements) => format!("room for {elements}"),
     }
 }

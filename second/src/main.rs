@@ -18,10 +18,9 @@ mod compare;
 #[allow(unsafe_code)]
 mod ffi;
 mod judge;
-mod lent;
 
 use judge::Judge;
-use second::{answer, fields, laws, numbers, random, rules};
+use second::{answer, fields, laws, lent, numbers, random, rules};
 
 /// The name of a channel and what runs all of its comparisons.
 type Channel = (&'static str, fn(&mut Judge));
