@@ -14,8 +14,8 @@ use Rattle.run.specs.declared.Verdict.{Verdict}
 use Rattle.run.specs.First.{firstBad, all, Every}
 use Rattle.run.specs.Refusals.{signatureRefused}
 use Rattle.run.specs.Verdicts.{refused, done, orElse, each, leaves}
-use Rattle.run.proofs.First.{first-below, first-fails, first-same, none-first, every-by}
-use Rattle.run.proofs.Chain.{or-else-done, or-else-next, or-else-refused, or-else-pass, or-else-plain, or-else-last, unless-plain, unless-done, unless-pass, each-plain, each-done, each-pass, each-stops, each-told, leaves-done, leaves-refused, one-outcome, number-0}
+use Rattle.run.proofs.First.{first-below, first-fails, first-same, every-by}
+use Rattle.run.proofs.Chain.{or-else-done, or-else-next, or-else-refused, or-else-pass, or-else-plain, or-else-last, unless-plain, unless-done, unless-pass, each-plain, each-done, each-pass, each-told, leaves-done, leaves-refused, one-outcome, number-0}
 use Rattle.whole.specs.Equal.{eqZ}
 use Rattle.whole.proofs.Equal.{eqZ-true, eq-eqZ}
 use Rattle.aich.specs.Rule.{valuesOf, indicatorsIn, offers, allows}

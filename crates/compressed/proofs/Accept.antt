@@ -15,7 +15,7 @@ use Rattle.run.specs.First.{Every, atMost, isAt}
 use Rattle.run.specs.Parts.{part}
 use Rattle.run.specs.Refusals.{digitRefused, frameRefused}
 use Rattle.run.specs.Verdicts.{done, orElse, unless, each, lengths, Narrow}
-use Rattle.run.proofs.Bools.{and-left, and-right}
+use Rattle.run.proofs.Bools.{and-right}
 use Rattle.run.proofs.Chain.{or-else-done, unless-done, or-else-pass, unless-pass, each-done, each-pass, AllRight, lengths-done, lengths-pass, chain-done, check-narrow, lengths-narrow, or-else-narrow, each-narrow}
 use Rattle.run.proofs.Each.{each-same}
 use Rattle.run.proofs.Parts.{part-length}

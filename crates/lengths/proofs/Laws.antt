@@ -11,7 +11,7 @@ use lib.ListN.{length, getD, take}
 use lib.Seq.{getD-take, length-take-le}
 use Rattle.run.specs.declared.Verdict.{Verdict}
 use Rattle.run.specs.Refusals.{rangeRefused}
-use Rattle.run.specs.Verdicts.{orElse, unless, lengths, leaves, Narrow}
+use Rattle.run.specs.Verdicts.{orElse, unless}
 use Rattle.run.proofs.Chain.{or-else-done, or-else-next, or-else-refused, unless-done, leaves-done, leaves-refused, leaves-small}
 use Rattle.dpch.specs.declared.Format.{Format}
 use Rattle.dpch.specs.Compressed.{formatIn}

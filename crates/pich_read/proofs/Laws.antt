@@ -18,7 +18,7 @@ use Rattle.run.proofs.First.{first-le, first-in-part, part-passes, first-in-las
 use Rattle.run.proofs.Passing.{passed}
 use Rattle.run.proofs.Lent.{part-length, part-at}
 use Rattle.scan_diff.proofs.Laws.{found-same}
-use Rattle.pich.specs.Rule.{isNp, width, frameOf, indicatorsIn}
+use Rattle.pich.specs.Rule.{isNp, width, frameOf}
 use Rattle.pich.specs.Outcome.{mapVerdict, stands, readVerdict, Read}
 use Rattle.pich.specs.Exact.{Gives}
 use Rattle.pich.proofs.Laws.{groups, frame-length, digit-at, tail-at, taken}

@@ -9,9 +9,8 @@ use native.Mathlib.Omega.{arith}
 use borrow.Author.Tests.{eqb-true, eq-eqb, ne-eqb, le-leb, lt-leb}
 use lib.Dec.{eqb, leb, lit<}
 use lib.ListN.{length, getD, take, drop}
-use Rattle.run.specs.declared.Verdict.{Verdict}
 use Rattle.run.specs.First.{firstBad, all, isAt, likeFirst, agree}
-use Rattle.run.specs.Verdicts.{done, orElse, unless, each}
+use Rattle.run.specs.Verdicts.{done, each}
 use Rattle.run.specs.Fields.{joined, field, start}
 use Rattle.run.proofs.First.{first-is, first-same}
 use Rattle.run.proofs.Chain.{or-else-done, unless-done, or-else-pass, unless-pass, each-fits}

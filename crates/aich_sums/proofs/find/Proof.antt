@@ -8,7 +8,6 @@ use borrow.Author.Tests.{ne-eqb, eq-eqb, not-true, not-false}
 use denote.Ref.{now}
 use lib.ListN.{length}
 use lib.IntN.{ℤ}
-use Rattle.run.specs.First.{all}
 use Rattle.run.proofs.Passing.{passed}
 use Rattle.aich.specs.Method.{Sums, halfOf, firsts, alike, summable}
 use Rattle.aich_sums.proofs.find.Statement.{statement}

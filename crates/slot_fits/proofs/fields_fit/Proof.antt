@@ -8,13 +8,12 @@ use borrow.Author.Needs.{needs}
 use denote.Ref.{now}
 use lib.Dec.{lit<}
 use lib.ListN.{length}
-use Rattle.run.specs.First.{all, likeFirst, agree}
+use Rattle.run.specs.First.{likeFirst, agree}
 use Rattle.run.proofs.Chain.{both-fit, each-fits}
 use Rattle.dpch.specs.Compressed.{pilotFor}
 use Rattle.slot.specs.Rule.{tfciStands}
 use Rattle.slot.specs.Outcome.{digitsVerdict}
 use Rattle.slot.proofs.Laws.{sum, start-tpc, start-tfci, start-pilot}
-use Rattle.slot_fits.specs.Method.{PilotWidth}
 use Rattle.slot_fits.proofs.Laws.{field-told, lent-long, pilot-lent}
 use Rattle.slot_fits.proofs.fields_fit.Statement.{statement}
 use Rattle.slot_fits.proofs.fields_fit.Tie as tie
