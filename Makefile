@@ -60,7 +60,7 @@ fmt:
 # time works in target/.
 ONE_RT = mkdir -p target && flock target/one-rt
 C_CALLS = slt_slot slt_antenna slt_frame slt_compressed slt_dpdch slt_dpcch slt_pich slt_wake slt_pccpch slt_hspdsch slt_lengths slt_sttd slt_aich slt_desk slt_combiner slt_sample slt_bank
-BELOW_C = packed slot_read antenna_map antenna_read frame_map frame_read compressed_map compressed_read dpdch dpcch_read dpcch_frame_map dpcch_frame_read pich_map pich_read wake_run pccpch_read hspdsch_map hspdsch_read lengths sttd_digits sttd_values aich_read aich_map_available desk_serve combiner sample bank_store bank_read bank_drop
+BELOW_C = packed slot_read antenna_map antenna_read frame_map frame_read compressed_map compressed_read dpdch dpcch_read dpcch_frame_map dpcch_frame_read pich_map pich_read wake_run pccpch_read hspdsch_map hspdsch_read lengths sttd_digits sttd_values aich desk_serve combiner sample bank_store bank_read bank_drop
 lib: | kit
 	$(ONE_RT) $(RT) check $(BELOW_C)
 	for name in $(C_CALLS); do $(ONE_RT) $(RT) staticlib $$name || exit 1; done

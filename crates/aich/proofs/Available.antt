@@ -6,26 +6,26 @@ use mathlib.Core.Bool.{Bool, true, false, not, _||_}
 use mathlib.Core.List.{List}
 use Prim.Native.Nat.{ℕ, _≤_, _<_}
 use native.Mathlib.Omega.{arith}
-use borrow.Author.Tests.{leb-true, leb-false, eqb-true, eqb-false, eq-eqb, not-true, not-false}
-use lib.Dec.{eqb, lit<}
+use borrow.Author.Tests.{leb-true, leb-false, not-true, not-false}
+use lib.Dec.{lit<}
 use lib.ListN.{length, getD}
 use lib.IntN.{ℤ, pos}
 use Rattle.run.specs.declared.Verdict.{Verdict}
 use Rattle.run.specs.First.{firstBad, all, Every}
 use Rattle.run.specs.Refusals.{signatureRefused}
-use Rattle.run.specs.Verdicts.{refused, done, orElse, each, leaves}
-use Rattle.run.proofs.First.{first-below, first-fails, first-same, every-by}
-use Rattle.run.proofs.Chain.{or-else-done, or-else-next, or-else-refused, or-else-pass, or-else-plain, or-else-last, unless-plain, unless-done, unless-pass, each-plain, each-done, each-pass, each-told, leaves-done, leaves-refused, one-outcome, number-0}
+use Rattle.run.specs.Verdicts.{refused, done, orElse, leaves}
+use Rattle.run.proofs.First.{first-below, first-fails, first-same, none-first, every-by}
+use Rattle.run.proofs.Chain.{or-else-done, or-else-next, or-else-refused, or-else-pass, or-else-plain, or-else-last, unless-plain, each-plain, each-done, each-pass, each-stops, each-told, leaves-done, leaves-refused, one-outcome, number-0}
 use Rattle.whole.specs.Equal.{eqZ}
 use Rattle.whole.proofs.Equal.{eqZ-true, eq-eqZ}
 use Rattle.aich.specs.Rule.{valuesOf, indicatorsIn, offers, allows}
-use Rattle.aich.specs.Outcome.{mapVerdict, Map, readHead, readVerdict, Read, setVerdict, setCheck, mapAvailableVerdict, MapAvailable, readAvailableVerdict, ReadAvailable}
+use Rattle.aich.specs.Outcome.{mapVerdict, readHead, readVerdict, Read, setVerdict, mapAvailableVerdict, MapAvailable, readAvailableVerdict, ReadAvailable}
 use Rattle.aich.specs.Method.{firsts, halfOf, alike, fitsAt, unitsOf}
 use Rattle.aich.specs.Exact.{Gives}
 use Rattle.aich.specs.Available.{Zero, SetIs, GivesUnder, AvailableExact, AllAvailable, Within, LargerSet, AvailableOnce}
-use Rattle.aich.proofs.Laws.{half-length, fit-zero}
+use Rattle.aich.proofs.Laws.{fit-zero}
 use Rattle.aich.proofs.Reading.{indicator-is, units-are, units-give}
-use Rattle.aich.proofs.Checks.{taken, read-done as base-done}
+use Rattle.aich.proofs.Checks.{read-done as base-done}
 use Rattle.aich.proofs.Exact.{read-exact}
 
 -- ---- the check of the set
@@ -59,19 +59,9 @@ module _ (available : ℕ) (x : List ℤ) where
   unfolding setVerdict
   set-every h = each-done 0 26 _ 16 (lit< tt) h
 
-  pub every-set : Every (allows available x) 16 → setVerdict available x ≡ done
+  every-set : Every (allows available x) 16 → setVerdict available x ≡ done
   unfolding setVerdict
   every-set all = each-pass 0 26 _ 16 all
-
-  pub check-is : length x ≡ 16 → setCheck available x ≡ setVerdict available x
-  unfolding setCheck
-  check-is e = or-else-next _ _ (number-0 (unless-pass 3 0 (eq-eqb _ _ e)))
-
-  check-passed : setCheck available x .number ≡ 0 → (length x ≡ 16) × (setVerdict available x .number ≡ 0)
-  unfolding setCheck
-  check-passed h =
-      let c = or-else-done _ _ h in
-      (eqb-true _ _ (unless-done _ 3 0 (lit< tt) (c .first)), c .rest)
 
   set-told : (s : ℕ) → setVerdict available x ≡ refused signatureRefused s → (s ≡ firstBad (allows available x) 16) × (s < 16)
   unfolding setVerdict
@@ -204,45 +194,42 @@ module _ (base : Verdict) (plain : base .number ≡ 0 → base ≡ done) (availa
       let is = or-else-refused base (setVerdict available x) h in
       record { answered = sym is; left = sym (leaves-refused _ new old (rw is h)) }
 
-  module _ (h : base .number ≡ 0) where
-    ended-told : {set : Verdict} → set ≡ setVerdict available x → (set .number ≡ 0 → ⊥) → Ended base available x new old set old
-    ended-told e told =
-        let is = or-else-next base (setVerdict available x) h in
-        record { answered = e ∙ sym is; left = sym (leaves-refused _ new old (rw (is, ← e) told)) }
+  module _ (h : base .number ≡ 0) (s : ℕ) (e : s ≡ firstBad (allows available x) 16) where
+    ended-stray : s < 16 → Ended base available x new old (refused signatureRefused s) old
+    unfolding setVerdict
+    ended-stray l =
+        let is : orElse base (setVerdict available x) ≡ refused signatureRefused s =
+        or-else-next base _ h ∙ rw e (each-stops 26 (allows available x) 16 (rw e at l))
+        in
+        record { answered = sym is; left = sym (leaves-refused _ new old (rw is (λ n. let z : ⊥ = omega arith in z))) }
 
-    ended-done : setVerdict available x .number ≡ 0 → {after : List ℤ} → after ≡ new → Ended base available x new old base after
-    ended-done passed out =
-        let is = under base plain x available (plain h) (set-every available x passed) in
+    ended-done : 16 ≤ s → {after : List ℤ} → after ≡ new → Ended base available x new old base after
+    ended-done l out =
+        let is = under base plain x available (plain h) (none-first _ 16 (rw e at l)) in
         record { answered = plain h ∙ sym is; left = out ∙ sym (leaves-done _ new old (number-0 is)) }
 
 module _ (available : ℕ) (x v : List ℤ) where
-  -- where there are not sixteen indicators the mapper's own refusal comes first
-  check-same : orElse (mapVerdict x (length v)) (setCheck available x) ≡ mapAvailableVerdict available x (length v)
+  map-ended : {answer : Verdict} {after : List ℤ} → Ended (mapVerdict x (length v)) available x (valuesOf x) v answer after → MapAvailable available x v answer after
   unfolding mapAvailableVerdict
-  check-same = side (eqb (length x) 16) refl
-    where
-      side : (b : Bool) → eqb (length x) 16 ≡ b → orElse (mapVerdict x (length v)) (setCheck available x) ≡ orElse (mapVerdict x (length v)) (setVerdict available x)
-      side true e = ap (orElse (mapVerdict x (length v))) (check-is available x (eqb-true _ _ e))
-      side false e =
-          let stops : mapVerdict x (length v) .number ≡ 0 → ⊥ = λ z. eqb-false _ _ e (taken x (length v) z .indicators-ok .long) in
-          or-else-refused _ _ stops ∙ sym (or-else-refused _ _ stops)
+  map-ended e = record { verdict-is = e .answered; values-is = e .left }
 
-  pub map-told : {answer : Verdict} → answer ≡ orElse (mapVerdict x (length v)) (setCheck available x) → (setCheck available x .number ≡ 0 → ⊥)
-      → MapAvailable available x v answer v
-  map-told e told =
-      record {
-        verdict-is = e ∙ check-same;
-        values-is = sym (leaves-refused _ (valuesOf x) v (λ z. told (or-else-done _ _ (ap (λ (w : Verdict). w .number) check-same ∙ z) .rest)));
-      }
+  pub map-refused : (mapVerdict x (length v) .number ≡ 0 → ⊥) → MapAvailable available x v (mapVerdict x (length v)) v
+  map-refused h = map-ended (ended-refused _ (map-plain x (length v)) available x (valuesOf x) v h)
 
-  pub map-passed : setCheck available x .number ≡ 0 → {answer : Verdict} {after : List ℤ} → Map x v answer after → MapAvailable available x v answer after
-  unfolding mapAvailableVerdict
-  map-passed passed p =
-      let none = every-set available x (set-every available x (check-passed available x passed .1)) in
-      let is : mapVerdict x (length v) ≡ orElse (mapVerdict x (length v)) (setVerdict available x) =
-      rw none (sym (or-else-last (mapVerdict x (length v)) (map-plain x (length v))))
-      in
-      record { verdict-is = p .verdict-is ∙ is; values-is = left-as (valuesOf x) v is (p .values-is) }
+  module _ (h : mapVerdict x (length v) .number ≡ 0) (s : ℕ) (e : s ≡ firstBad (allows available x) 16) where
+    pub map-stray : s < 16 → MapAvailable available x v (refused signatureRefused s) v
+    map-stray l = map-ended (ended-stray _ (map-plain x (length v)) available x (valuesOf x) v h s e l)
+
+    pub map-done : 16 ≤ s → {after : List ℤ} → after ≡ valuesOf x → MapAvailable available x v (mapVerdict x (length v)) after
+    map-done l out = map-ended (ended-done _ (map-plain x (length v)) available x (valuesOf x) v h s e l out)
+
+-- what `none_stray` told: there is a signature that may not have its indicator, or there is none
+module _ (available : ℕ) (x : List ℤ) {good : Bool} (e : good ≡ all 16 (allows available x)) where
+  pub some-stray : not good ≡ true → firstBad (allows available x) 16 < 16
+  some-stray h = leb-false _ _ (sym e ∙ not-true good h)
+
+  pub none-stray : not good ≡ false → 16 ≤ firstBad (allows available x) 16
+  none-stray h = leb-true _ _ (sym e ∙ not-false good h)
 
 module _ (available : ℕ) (v x : List ℤ) where
   read-ended : {answer : Verdict} {after : List ℤ} → Ended (readVerdict v (length x)) available (indicatorsIn v) (indicatorsIn v) x answer after
@@ -270,15 +257,12 @@ module _ (available : ℕ) (v x : List ℤ) where
         first-same _ _ 16
         (λ s h. ap (λ (b : Bool). offers available s || b) (rw is (fit-zero _ (fit s h)) ∙ ap (λ (z : ℤ). eqZ z (pos 0)) (sym (indicator-is v like fit s h))))
 
-    check : setCheck available sums ≡ setVerdict available (indicatorsIn v)
-    unfolding setVerdict each
-    check = check-is available sums (ap length is ∙ half-length (firsts v)) ∙ rw asked
+    pub read-stray : (s : ℕ) → s ≡ firstBad (allows available sums) 16 → s < 16 → ReadAvailable available v x (refused signatureRefused s) x
+    read-stray s e l =
+        read-ended (ended-stray _ (read-plain v (length x)) available (indicatorsIn v) (indicatorsIn v) x zero s (e ∙ asked) l)
 
-    pub read-told : {set : Verdict} → set ≡ setCheck available sums → (set .number ≡ 0 → ⊥) → ReadAvailable available v x set x
-    read-told e told = read-ended (ended-told _ (read-plain v (length x)) available (indicatorsIn v) (indicatorsIn v) x zero (e ∙ check) told)
-
-    pub read-done : setCheck available sums .number ≡ 0 → {after : List ℤ} → after ≡ unitsOf sums
+    pub read-done : 16 ≤ firstBad (allows available sums) 16 → {after : List ℤ} → after ≡ unitsOf sums
         → ReadAvailable available v x (readHead (length v) (length x)) after
-    read-done passed out =
+    read-done l out =
         rw (base .verdict-is)
-        (read-ended (ended-done _ (read-plain v (length x)) available (indicatorsIn v) (indicatorsIn v) x zero (rw check at passed) (out ∙ ap unitsOf is ∙ units-are v like fit)))
+        (read-ended (ended-done _ (read-plain v (length x)) available (indicatorsIn v) (indicatorsIn v) x zero _ asked l (out ∙ ap unitsOf is ∙ units-are v like fit)))

@@ -5,8 +5,7 @@ use mathlib.Core.Bool.{Bool, true, false, not}
 use mathlib.Core.List.{List}
 use Prim.Native.Nat.{ℕ}
 use native.Mathlib.Omega.{arith}
-use borrow.Author.Tests.{eqb-true, eq-eqb, not-true, not-false}
-use lib.Dec.{eqb}
+use borrow.Author.Tests.{eqb-true, eq-eqb}
 use lib.ListN.{length, getD}
 use lib.IntN.{ℤ, pos, negsuc}
 use Rattle.run.specs.declared.Verdict.{Verdict}
@@ -19,9 +18,9 @@ use Rattle.run.proofs.Ranges.{range-parts}
 use Rattle.whole.proofs.Bound.{b-range}
 use Rattle.aich.specs.Rule.{indicatorsIn}
 use Rattle.aich.specs.Outcome.{mapVerdict, given, readHead, readVerdict, Read}
-use Rattle.aich.specs.Method.{Sixteen, halfOf, firsts, alike, summable, Sums, fitsAt}
-use Rattle.run.proofs.Passing.{all-every, every-all, passed}
-use Rattle.aich.proofs.Reading.{and-parts, all-alike, all-fit}
+use Rattle.aich.specs.Method.{Sixteen, halfOf, firsts, alike, fitsAt}
+use Rattle.run.proofs.Passing.{every-all, passed}
+use Rattle.aich.proofs.Reading.{all-alike, all-fit}
 
 -- sixteen numbers in -1 to 1
 pub units : (indicators : List ℤ) → length indicators ≡ 16 → Every (inRange (negsuc 0) (pos 1) indicators) 16 → Sixteen 1 indicators
@@ -92,24 +91,8 @@ stops v ok every e = side (given (indicatorsIn v) v) refl
     side true t = sym (every-all 16 ok (every t)) ∙ e
     side false t = refl
 
-unlike-stops : (v : List ℤ) → all 16 (alike v) ≡ false → given (indicatorsIn v) v ≡ false
+pub unlike-stops : (v : List ℤ) → all 16 (alike v) ≡ false → given (indicatorsIn v) v ≡ false
 unlike-stops v = stops v (alike v) (all-alike v)
-
--- what `find` of `aich_sums` told where there is room for sixteen sums
-pub record Summed (v sums : List ℤ) : Type 0 where
-  pub like : Every (alike v) 16
-  pub is : sums ≡ halfOf (firsts v)
-
-module _ (v before sums : List ℤ) {found : Bool} (room : length before ≡ 16) (p : Sums v before found sums) where
-  pub summed : not found ≡ false → Summed v sums
-  unfolding summable
-  summed h =
-      let e : summable v 16 ≡ true = rw room at (sym (p .answer-is) ∙ not-false found h) in
-      record { like = all-every 16 (alike v) (and-parts (eqb (length v) 32) _ e .1); is = rw (room, e) at (p .sums-is) }
-
-  pub unsummed-stops : length v ≡ 32 → not found ≡ true → given (indicatorsIn v) v ≡ false
-  unfolding summable
-  unsummed-stops n h = unlike-stops v (rw (eq-eqb _ _ n, room) at (sym (p .answer-is) ∙ not-true found h))
 
 pub unfit-stops : (v sums : List ℤ) → sums ≡ halfOf (firsts v) → all 16 (fitsAt sums) ≡ false → given (indicatorsIn v) v ≡ false
 unfit-stops v sums e = stops v (fitsAt sums) (λ t. rw e (all-fit v t))

@@ -18,7 +18,7 @@ use Rattle.whole.proofs.Bound.{range-low, range-high}
 use Rattle.aich.specs.Rule.{valueAt, valuesOf, indicatorsIn}
 use Rattle.aich.specs.Outcome.{mapVerdict, readHead, readVerdict, setVerdict, mapAvailableVerdict, readAvailableVerdict}
 use Rattle.aich.specs.Method.{Sixteen}
-use Rattle.aich.specs.Exact.{Gives, ReadExact, Sized, GivenSized, MapOnce, ReadOnce, PartsOnce, Packs}
+use Rattle.aich.specs.Exact.{Gives, ReadExact, Sized, GivenSized, MapOnce, ReadOnce, Packs}
 use Rattle.aich.proofs.Laws.{entry, values-length, value-at, value-small, indicators-length, indicator-small, given-back}
 use Rattle.aich.proofs.Reading.{given-every, every-given}
 use Rattle.aich.proofs.Checks.{taken, Accepted, accepted}
@@ -95,12 +95,6 @@ map-once indicators values a b x y p r = (one-outcome (p .verdict-is) (r .verdic
 pub read-once : ReadOnce
 read-once values indicators a b x y p r =
     (one-outcome (p .verdict-is) (r .verdict-is), one-outcome (p .indicators-is) (r .indicators-is))
-
-pub parts-once : PartsOnce
-parts-once =
-    record {
-      sums = λ values sums a b x y p q. (one-outcome (p .answer-is) (q .answer-is), one-outcome (p .sums-is) (q .sums-is));
-    }
 
 map-narrow : (indicators : List ℤ) (valuesLength : ℕ) → Narrow (mapVerdict indicators valuesLength)
 unfolding mapVerdict

@@ -25,7 +25,7 @@ use Rattle.aich.specs.Method.{Sixteen, Paired, halfOf, firsts, isPair, a
 use Rattle.run.proofs.Passing.{all-every, every-all}
 use Rattle.aich.proofs.Laws.{entry, indicators-length, value-half, value-times, value-small, half-at, half-twice, unit-fits, fit-is, fit-sign, fit-twice, indicator-at, indicator-small, firsts-length, first-at, pairs-correlate, given-alike, given-sum}
 
-pub and-parts : (a b : Bool) → (a && b) ≡ true → (a ≡ true) × (b ≡ true)
+and-parts : (a b : Bool) → (a && b) ≡ true → (a ≡ true) × (b ≡ true)
 and-parts true b e = (refl, e)
 and-parts false b e = absurd (let z : _≡_ {A = ℕ} 0 1 = cc in omega arith)
 

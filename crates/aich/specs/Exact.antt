@@ -3,7 +3,6 @@
 -- Assumes nothing.
 use Prim.Native.Nat.{ℕ}
 use mathlib.Core.Path.{_≡_}
-use mathlib.Core.Bool.{Bool}
 use mathlib.Core.List.{List}
 use mathlib.Core.Logic.{_↔_}
 use lib.ListN.{length}
@@ -13,7 +12,6 @@ use Rattle.run.specs.First.{Every}
 use Rattle.run.specs.Ranges.{inRange}
 use Rattle.run.specs.Verdicts.{done, Narrow}
 use Rattle.aich.specs.Rule.{valuesOf, indicatorsIn}
-use Rattle.aich.specs.Method.{Sums}
 use Rattle.aich.specs.Outcome.{mapVerdict, Map, readVerdict, Read, mapAvailableVerdict, readAvailableVerdict}
 
 -- indicators give values: map takes them, and this is what it writes
@@ -46,10 +44,6 @@ MapOnce =
 abbrev pub ReadOnce : Type 0
 ReadOnce =
     (values indicators : List ℤ) (a b : Verdict) (x y : List ℤ) → Read values indicators a x → Read values indicators b y → (a ≡ b) × (x ≡ y)
-
--- so does the promise of the sums, which the reader stands on
-pub record PartsOnce : Type 0 where
-  pub sums : (values sums : List ℤ) (a b : Bool) (x y : List ℤ) → Sums values sums a x → Sums values sums b y → (a ≡ b) × (x ≡ y)
 
 -- number and place fit the 16 and 32 bits that the C boundary has for them
 pub record Packs : Type 0 where

@@ -1,4 +1,4 @@
--- How the code finds sums over signatures: what the functions below its calls promise. Nothing here is part of what a call promises.
+-- How the code finds sums over signatures: what its private functions promise. Nothing here is part of a public promise.
 -- Values come in equal pairs, b(s, 2k) = b(s, 2k + 1), so sixteen sums are found and not 32; and those are found by four foldings of the run.
 -- Assumes nothing.
 use Prim.Native.Nat.{ℕ, _+_, _*_, _/_, _%_, _<_}
@@ -9,7 +9,7 @@ use lib.Dec.{eqb}
 use lib.ListN.{length, getD}
 use lib.IntN.{ℤ, pos, negsuc, _+ℤ_, _-ℤ_, _*ℤ_}
 use lib.Signed.{ltZ}
-use Rattle.run.specs.First.{Every, all}
+use Rattle.run.specs.First.{Every}
 use Rattle.run.specs.Ranges.{between}
 use Rattle.run.specs.Table.{tab}
 use Rattle.whole.specs.Equal.{eqZ}
@@ -53,15 +53,6 @@ alike values k = isPair (getD values (2 * k) (pos 0)) (getD values (2 * k + 1) (
 pub record Paired (values : List ℤ) : Type 0 where
   pub long : length values ≡ 32
   pub like : Every (alike values) 16
-
--- 32 values in sixteen such pairs, and room for sixteen sums
-unfoldable pub summable : List ℤ → ℕ → Bool
-summable values room = eqb (length values) 32 && (eqb room 16 && all 16 (alike values))
-
--- the sums of such values over the signatures, and the run as it was where there are none
-pub record Sums (values sums : List ℤ) (answer : Bool) (sums-after : List ℤ) : Type 0 where
-  pub answer-is : answer ≡ summable values (length sums)
-  pub sums-is : sums-after ≡ cond (summable values (length sums)) (halfOf (firsts values)) sums
 
 -- the sign of a sum
 unfoldable pub signOf : ℤ → ℤ

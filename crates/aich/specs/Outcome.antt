@@ -54,10 +54,6 @@ pub record Read (values indicators : List ℤ) (answer : Verdict) (indicators-af
 unfoldable pub setVerdict : ℕ → List ℤ → Verdict
 setVerdict available indicators = each 0 signatureRefused (allows available indicators) 16
 
--- the same as a check by itself: 3 where there are not sixteen indicators
-unfoldable pub setCheck : ℕ → List ℤ → Verdict
-setCheck available indicators = orElse (unless (eqb (length indicators) 16) lengthRefused 0) (setVerdict available indicators)
-
 -- map: its own checks, then 26
 unfoldable pub mapAvailableVerdict : ℕ → List ℤ → ℕ → Verdict
 mapAvailableVerdict available indicators valuesLength = orElse (mapVerdict indicators valuesLength) (setVerdict available indicators)

@@ -10,10 +10,10 @@ use run::Verdict;
 
 fn write(call: usize, available: u16, given: &[i32], out: &mut [i32]) -> Verdict {
     match call {
-        question::AICH_MAP => aich_map::map(given, out),
-        question::AICH_READ => aich_read::read(given, out),
-        question::AICH_MAP_AVAILABLE => aich_map_available::map_available(available, given, out),
-        question::AICH_READ_AVAILABLE => aich_read::read_available(available, given, out),
+        question::AICH_MAP => aich::map(given, out),
+        question::AICH_READ => aich::read(given, out),
+        question::AICH_MAP_AVAILABLE => aich::map_available(available, given, out),
+        question::AICH_READ_AVAILABLE => aich::read_available(available, given, out),
         _ => sttd_values::values(given, out),
     }
 }

@@ -1,5 +1,5 @@
 -- Demand 3 (docs/RULES.md, 'The demands'): what `combine` gives of the AICH that two antennas send by STTD, with no noise and with noise. What is sent is what
--- `aich_map::map` and `sttd_values::values` promise, and what is heard is what `combiner::combine` promises. Each statement is proved in proofs/Demand3.antt under its name
+-- `aich::map` and `sttd_values::values` promise, and what is heard is what `combiner::combine` promises. Each statement is proved in proofs/Demand3.antt under its name
 -- in small letters.
 -- Assumes nothing.
 use Prim.Native.Nat.{ℕ, _+_, _*_, _/_, _%_, _<_}
@@ -24,7 +24,7 @@ use Rattle.combiner.specs.Outcome.{gainIn, partIn, someGain, Combine}
 
 -- ---- what is sent
 
--- antenna 1: the values that `aich_map::map` writes
+-- antenna 1: the values that `aich::map` writes
 abbrev pub antenna1 : List ℤ → List ℤ
 antenna1 indicators = valuesOf indicators
 
@@ -32,7 +32,7 @@ antenna1 indicators = valuesOf indicators
 abbrev pub antenna2 : List ℤ → List ℤ
 antenna2 indicators = sttd negℤ (valuesOf indicators)
 
--- the calls send that: where `aich_map::map` takes the indicators, `sttd_values::values` takes what it wrote
+-- the calls send that: where `aich::map` takes the indicators, `sttd_values::values` takes what it wrote
 abbrev pub Sent : Type 0
 Sent =
     (indicators values out : List ℤ) (a b : Verdict) (v w : List ℤ)

@@ -21,7 +21,7 @@ use Rattle.correlator.specs.Complexes.{cx, _⊠_, conj}
 use Rattle.correlator.specs.Rule.{symbol}
 use Rattle.combiner.specs.Outcome.{combineVerdict, Combine}
 
--- what `aich_map::map` writes, `sttd_values::values` takes
+-- what `aich::map` writes, `sttd_values::values` takes
 abbrev pub EncoderTakes : Type 0
 EncoderTakes = (indicators : List ℤ) → mapVerdict indicators 32 ≡ done → valuesVerdict (valuesOf indicators) 32 ≡ done
 

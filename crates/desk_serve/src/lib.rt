@@ -101,7 +101,7 @@ pub fn serve(desk: Desk, heard: u16, available: u16, n: usize, values: &mut [i32
     let after = last_served(candidates, last, n);
     let q = (after + 15 - last) % 16;
     let indicators = marks(candidates as u32, last as u32, q as u32);
-    aich_map::map(&indicators, values);
+    aich::map(&indicators, values);
     let moved = Desk { last: after };
     let done = Verdict {
         number: 0,

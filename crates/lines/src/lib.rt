@@ -101,7 +101,7 @@ fn aich_record(r: &[u8], line: &mut [u8]) -> Told
 {
     let indicators = indicators_of(r);
     let mut values = [0i32; 32];
-    let verdict = aich_map::map(&indicators, &mut values);
+    let verdict = aich::map(&indicators, &mut values);
     if verdict.number != 0 {
         return Told { verdict, length: 0 };
     }

@@ -1,5 +1,4 @@
-// AICH for a C host: each call is that of the crate `aich` and its parts, with the answer packed in one number (docs/INTERFACE.md).
-use aich_map_available::map_available;
+// AICH for a C host: each call is that of the crate `aich`, with the answer packed in one number (docs/INTERFACE.md).
 use packed::pack;
 ghost use Rattle.slt_aich.specs.Outcome.{AichMap, AichRead, AichMapAvailable, AichReadAvailable};
 
@@ -7,14 +6,14 @@ ghost use Rattle.slt_aich.specs.Outcome.{AichMap, AichRead, AichMapAvail
 pub extern "C" fn slt_aich_map(indicators: &[i32], values: &mut [i32]) -> u64
     ensures { λ r. ⌜ AichMap (now (indicators .entry)) (now (values .entry)) r (now (values .exit)) ⌝ }
 {
-    pack(aich_map::map(indicators, values), 0)
+    pack(aich::map(indicators, values), 0)
 }
 
 #[no_mangle]
 pub extern "C" fn slt_aich_read(values: &[i32], indicators: &mut [i32]) -> u64
     ensures { λ r. ⌜ AichRead (now (values .entry)) (now (indicators .entry)) r (now (indicators .exit)) ⌝ }
 {
-    pack(aich_read::read(values, indicators), 0)
+    pack(aich::read(values, indicators), 0)
 }
 
 #[no_mangle]
@@ -25,7 +24,7 @@ pub extern "C" fn slt_aich_map_available(
 ) -> u64
     ensures { λ r. ⌜ AichMapAvailable available (now (indicators .entry)) (now (values .entry)) r (now (values .exit)) ⌝ }
 {
-    pack(map_available(available, indicators, values), 0)
+    pack(aich::map_available(available, indicators, values), 0)
 }
 
 #[no_mangle]
@@ -36,5 +35,5 @@ pub extern "C" fn slt_aich_read_available(
 ) -> u64
     ensures { λ r. ⌜ AichReadAvailable available (now (values .entry)) (now (indicators .entry)) r (now (indicators .exit)) ⌝ }
 {
-    pack(aich_read::read_available(available, values, indicators), 0)
+    pack(aich::read_available(available, values, indicators), 0)
 }
