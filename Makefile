@@ -1,6 +1,6 @@
 # Targets: run (the program on an example job), test (the gate), lib (the proved archive for C, and the same as a shared library), slotline (the program), sim (the judge of mutants in a
-# simulator), install, bench, pictures; and the steps of test: fmt, audit, second, jobs, cases, host, fuzz, package, python, sim-gate. tools-run, tools-sim and tools-test look for what run,
-# sim and test need.
+# simulator), install, bench, pictures; and the steps of test: fmt, audit, second, jobs, cases, host, examples, fuzz, package, python, sim-gate. tools-run, tools-sim and tools-test look for
+# what run, sim and test need, and kit says which kit proves.
 CFLAGS = -std=c11 -O2 -g -Wall -Wextra -Werror
 SANITIZE = -fsanitize=address,undefined -fno-sanitize-recover=all
 LIB = target/staticlib/libslt.a
@@ -29,21 +29,28 @@ COMPARE = RUSTC=/usr/bin/rustc CARGO_TARGET_X86_64_UNKNOWN_LINUX_GNU_LINKER=$(CC
     /usr/bin/cargo run --target x86_64-unknown-linux-gnu
 endif
 
-.PHONY: test tools-run tools-sim tools-test steps sim sim-gate lib slotline run fmt audit pictures judges second jobs cases host fuzz python install package bench bench-programs bench-table clean
+.PHONY: test kit tools-run tools-sim tools-test steps sim sim-gate lib slotline run fmt audit pictures judges second jobs cases host examples fuzz python install package bench bench-programs bench-table clean
 
 # What the steps stand on is proved first, then the steps go two at a time, the output of each in one piece. rt ci comes last: it proves every crate from
 # nothing, tries every must-fail edit, and prints the verdict. It starts eight checks at a time and waits for all
 # of them, so that two cores stay busy while the last ones end.
 export RT_JOBS = 8
 test: | tools-test
-	rt check $(BELOW_C) slotline
-	$(MAKE) --no-print-directory -j2 --output-sync=target steps
-	rt ci
+	$(RT) check $(BELOW_C) slotline
+	$(MAKE) --no-print-directory -j2 --output-sync=target -o kit steps
+	$(RT) ci
 
-steps: fmt audit second jobs cases host fuzz package python sim-gate
+# The prover, with its temporary files in memory where there is enough.
+RT = env TMPDIR="$$(sh setup/room.sh)" rt
+
+steps: fmt audit second jobs cases host examples fuzz package python sim-gate
+
+# Which kit proves is said before anything is proved, and that it is another than setup/kit names, where it is.
+kit:
+	@sh setup/kit.sh
 
 # The tools, one list for all commands. What is missing is installed where it may be, else the command that does it is printed.
-tools-run tools-sim tools-test:
+tools-run tools-sim tools-test: | kit
 	@sh setup/tools.sh $(@:tools-%=%)
 
 fmt:
@@ -53,10 +60,10 @@ fmt:
 # time works in target/.
 ONE_RT = mkdir -p target && flock target/one-rt
 C_CALLS = slt_slot slt_antenna slt_frame slt_compressed slt_dpdch slt_dpcch slt_pich slt_wake slt_pccpch slt_hspdsch slt_lengths slt_sttd slt_aich slt_desk slt_combiner slt_sample slt_bank
-BELOW_C = packed slot_read antenna_map antenna_read frame_map frame_read compressed_map compressed_read dpdch dpcch_read dpcch_frame_map dpcch_frame_read pich_map pich_read wake_run pccpch_read hspdsch_map hspdsch_read lengths sttd sttd_values aich desk combiner sample bank_store bank_read bank_drop
-lib:
-	$(ONE_RT) rt check $(BELOW_C)
-	for name in $(C_CALLS); do $(ONE_RT) rt staticlib $$name || exit 1; done
+BELOW_C = packed slot_read antenna_map antenna_read frame_map frame_read compressed_map compressed_read dpdch dpcch_read dpcch_frame_map dpcch_frame_read pich_map pich_read wake_run pccpch_read hspdsch_map hspdsch_read lengths sttd_digits sttd_values aich desk_serve combiner sample bank_store bank_read bank_drop
+lib: | kit
+	$(ONE_RT) $(RT) check $(BELOW_C)
+	for name in $(C_CALLS); do $(ONE_RT) $(RT) staticlib $$name || exit 1; done
 	rm -f $(LIB) $(SHARED)*
 	cd $(dir $(LIB)) && for name in $(C_CALLS); do $(AR) x lib$$name.a || exit 1; done && $(AR) crs $(notdir $(LIB)) $(addsuffix .o,$(C_CALLS))
 	$(CC) -shared -nostartfiles $(SHARED_FLAGS) $(patsubst %,$(dir $(LIB))%.o,$(C_CALLS)) -o $(SHARED).$(VERSION)
@@ -69,7 +76,7 @@ SHARED_FLAGS = -Wl,-soname,libslt.so.$(MAJOR) -Wl,--version-script=packaging/lib
 
 # Proves the program that reads a job file and what it stands on, and compiles it.
 slotline: | tools-run
-	$(ONE_RT) rt check slotline
+	$(ONE_RT) $(RT) check slotline
 ifdef EMULATOR
 	mkdir -p $(dir $(PROGRAM))
 	printf '#!/bin/sh\nexec %s "%s" "$$@"\n' $(EMULATOR) $(abspath $(SLOTLINE)) > $(PROGRAM)
@@ -80,10 +87,12 @@ endif
 run: slotline
 	$(PROGRAM) < examples/three_kinds.slt
 
-# The pages, the header, the comments and the pictures against the source; then the audit itself, tried on wrong words that it must find.
+# The pages, the header, the comments and the pictures against the source; then the audit itself, tried on wrong words that it must find, and the scripts of setup/ on
+# kits and machines that are not here.
 audit:
 	python3 -B audit/audit.py
 	python3 -B audit/test_audit.py
+	sh setup/try.sh target/setup
 
 # The pictures of docs/, drawn anew from crates.txt and from the specs.
 pictures:
@@ -128,6 +137,16 @@ host: lib
 	CC="$(CC) $(CFLAGS) $(SANITIZE) -Iinclude" EMULATOR="$(EMULATOR)" sh examples/try_wake.sh $(LIB) target/host
 	CC="$(CC) $(CFLAGS) $(SANITIZE) -Iinclude" EMULATOR="$(EMULATOR)" sh examples/try_page.sh BANK 0 $(LIB) target/host
 
+# A short program for each use, compiled as the C host is; what it prints stands beside it.
+EXAMPLES = $(filter-out host,$(basename $(notdir $(wildcard examples/*.c))))
+examples: lib
+	mkdir -p target/examples
+	for name in $(EXAMPLES); do \
+	    $(CC) $(CFLAGS) $(SANITIZE) -Iinclude examples/$$name.c $(LIB) -o target/examples/$$name && \
+	    $(EMULATOR) target/examples/$$name > target/examples/$$name.stdout && cmp target/examples/$$name.stdout examples/$$name.stdout || exit 1; \
+	done
+	@echo "examples: $(words $(EXAMPLES)) programs print what stands beside them"
+
 # Cases drawn at random: the C calls under the sanitizers, in memory where a stray access shows, and the program on files.
 # How many there are is fixed, and SEED decides which: `make fuzz SEED=2` tries others, with CASE=N only that C call.
 SEED = 1
@@ -163,7 +182,7 @@ sim-gate: lib
 # The archive, the shared library with its links, the header and its pkg-config file, what a SystemVerilog bench needs, the program and its man page, and the Python package with a link to
 # the library beside it. PREFIX is where they will be used, and DESTDIR stands before it where they are only put together. PYTHON_DIR is where Python looks for packages below PREFIX.
 PREFIX = /usr/local
-VERSION = 1.0
+VERSION = 2.0
 PYTHON_DIR = $(or $(shell python3 -B packaging/python_dir.py "$(PREFIX)"),$(PREFIX)/lib/python3/site-packages)
 install: lib slotline
 	install -D -m 644 $(LIB) "$(DESTDIR)$(PREFIX)/lib/libslt.a"

@@ -8,8 +8,11 @@ import sys
 
 sys.dont_write_bytecode = True
 
+import answers
 import cites
+import front
 import header
+import kit
 import names
 import package
 import pages
@@ -17,7 +20,7 @@ import pictures
 import promises
 import refusals
 
-CHECKS = (pages, header, package, cites, refusals, promises, pictures)
+CHECKS = (pages, front, header, package, cites, kit, refusals, answers, promises, pictures)
 
 
 def faults(root):

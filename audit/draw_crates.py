@@ -4,7 +4,6 @@ import math
 import floors
 import svg
 
-TARGET = "docs/crates.svg"
 HIGH, BOX, LEFT, TOP, GAP = 66, 24, 46, 70, 12
 
 

@@ -107,6 +107,10 @@ class Tree:
         return self.by_crate("crates/*/specs/*.antt", lambda path: declared(self.text(path)))
 
     @functools.cached_property
+    def records(self):
+        return self.by_crate("crates/*/specs/*.antt", lambda path: set(re.findall(r"^pub record (\S+)", self.text(path), re.M)))
+
+    @functools.cached_property
     def claims(self):
         """The fields of the records of specs/: what a theorem or a promise says, one by one."""
         return self.by_crate("crates/*/specs/*.antt", lambda path: declared(self.text(path), fields=True))

@@ -9,6 +9,7 @@ import posixpath
 import re
 
 import header
+import kit
 import package
 
 MAN = "packaging/slotline.1"
@@ -34,7 +35,7 @@ TEXTS = {
 }
 # Columns whose words are wrong on purpose, and what tries each of them.
 FREE = {"there stands": "examples/try_mistakes.py"}
-RT = {"check", "ci", "dev", "fmt", "must-fail", "prove", "staticlib", "try"}
+RT = {"check", "ci", "dev", "fmt", "must-fail", "prove", "staticlib", "try", "version"}
 # A line that slotline prints: its first word, and words in capitals for what changes. A refusal that is printed has a number that there is.
 PRINTED = re.compile(r"(SLT|AICH|PICH|DPCH|refused)( 1)?( [A-Z]+)*")
 REFUSED = re.compile(r"refused (\d+) (\d+)")
@@ -163,7 +164,7 @@ def known(tree, word):
     refusal = REFUSED.fullmatch(word)
     if refusal:
         return re.search(rf"^\w+Refused = {refusal[1]}$", tree.text("crates/run/specs/Refusals.antt"), re.M) is not None
-    return word in TEXTS or PRINTED.fullmatch(word) is not None or any(kind(tree, word) for kind in KINDS)
+    return word in TEXTS or word == kit.identity(tree) or PRINTED.fullmatch(word) is not None or any(kind(tree, word) for kind in KINDS)
 
 
 def of_program(text, word):
@@ -201,12 +202,20 @@ def both_doors(tree, path):
     return [name for name in (path, path.replace("/specs/", "/proofs/")) if tree.has(name)]
 
 
+def anchors(tree, page):
+    """The sections of a page as a link names them: small letters, a hyphen for a space, and no other mark."""
+    return {re.sub(r"[^\w-]", "", head.strip().lower().replace(" ", "-")) for head in re.findall(r"^#+ (.*)$", tree.text(page), re.M)}
+
+
 def broken_links(tree, page):
-    """A link or a picture leads to a file, from the page's own folder."""
+    """A link or a picture leads to a file, from the page's own folder, or to a section of it."""
     text = tree.text(page)
-    for match in re.finditer(r"\]\(([^)#:\s]+)\)", text):
-        if not tree.has(posixpath.normpath(posixpath.join(posixpath.dirname(page), match[1]))):
+    for match in re.finditer(r"\]\(([^)#:\s]+)(?:#([^)\s]*))?\)", text):
+        target = posixpath.normpath(posixpath.join(posixpath.dirname(page), match[1]))
+        if not tree.has(target):
             yield text.count("\n", 0, match.start()) + 1, f"there is no {match[1]}"
+        elif match[2] is not None and match[2] not in anchors(tree, target):
+            yield text.count("\n", 0, match.start()) + 1, f"{match[1]} has no section {match[2]}"
 
 
 def page_faults(tree, page):

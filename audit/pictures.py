@@ -8,18 +8,35 @@ import sys
 
 sys.dont_write_bytecode = True
 
+import draw_access
+import draw_antennas
+import draw_bytes
 import draw_crates
 import draw_slots
 import names
 import slot_specs
 
-PICTURES = (draw_crates, draw_slots)
+# Each picture, and what draws it.
+PICTURES = {
+    "docs/crates.svg": draw_crates.draw,
+    "docs/slots.svg": draw_slots.slots,
+    "docs/compressed.svg": draw_slots.compressed,
+    "docs/uplink.svg": draw_slots.uplink,
+    "docs/antennas.svg": draw_antennas.antennas,
+    "docs/hspdsch.svg": draw_antennas.hspdsch,
+    "docs/pich.svg": draw_access.pich,
+    "docs/aich.svg": draw_access.aich,
+    "docs/desk.svg": draw_access.desk,
+    "docs/combiner.svg": draw_access.combiner,
+    "docs/bank.svg": draw_bytes.bank,
+    "docs/jobfile.svg": draw_bytes.jobfile,
+}
 RULES = "docs/RULES.md"
 
 
-def drawn_anew(tree, picture):
-    if not tree.has(picture.TARGET) or tree.text(picture.TARGET) != picture.draw(tree):
-        yield f"{picture.TARGET} is not what is drawn from the source: make pictures"
+def drawn_anew(tree, target, draw):
+    if not tree.has(target) or tree.text(target) != draw(tree):
+        yield f"{target} is not what is drawn from the source: make pictures"
 
 
 def tables(tree):
@@ -44,16 +61,16 @@ def rules_tables(tree):
 
 def faults(tree):
     try:
-        return [fault for picture in PICTURES for fault in drawn_anew(tree, picture)] + list(rules_tables(tree))
+        return [fault for target, draw in PICTURES.items() for fault in drawn_anew(tree, target, draw)] + list(rules_tables(tree))
     except slot_specs.Unread as problem:
         return [str(problem)]
 
 
 def main():
     tree = names.Tree(sys.argv[1] if len(sys.argv) > 1 else pathlib.Path(__file__).resolve().parent.parent)
-    for picture in PICTURES:
-        (tree.root / picture.TARGET).write_text(picture.draw(tree), encoding="utf-8")
-        print(f"drawn: {picture.TARGET}")
+    for target, draw in PICTURES.items():
+        (tree.root / target).write_text(draw(tree), encoding="utf-8")
+        print(f"drawn: {target}")
 
 
 if __name__ == "__main__":

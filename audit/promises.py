@@ -1,7 +1,8 @@
 """Compares docs/PROMISES.md with the source.
 
 Each public function of a crate has a row; each promise, theorem and edit that a row names exists in its crate; each row
-has at least two edits; each edit of a crate is named on the page, and the text that it replaces stands once in its file.
+has at least two edits, and names the theorem that its promise allows one outcome, unless the promise is an equation; each edit
+of a crate is named on the page, and the text that it replaces stands once in its file.
 """
 import pathlib
 import re
@@ -60,9 +61,18 @@ def check_edit(tree, path):
         yield f"edit {edit} of {crate} replaces nothing"
 
 
+def once_of(row):
+    """The theorems of a row that its promise allows one outcome. A part's stands beside its promise, where that is a record: an equation allows one as it stands."""
+    return names(row["once"]) if "once" in row else [name for name in names(row.get("promise", "")) if name.endswith("-once")]
+
+
+def is_equation(tree, row):
+    return "part" in row and not any(anywhere(tree.records, name) for name in names(row["promise"]))
+
+
 def check_row(tree, row, function):
     crate = crate_of(tree, function)
-    for name in names(row.get("once", "")):
+    for name in once_of(row):
         # the theorems of a crate NAME_PART stand with the rule, in NAME
         if not any(name in tree.theorems.get(place, ()) for place in (crate, crate.split("_")[0])):
             yield f"{function}: no theorem {name} in its crate"
@@ -107,7 +117,7 @@ def faults(tree):
             for function in functions_of(row[head]) if head in row else []:
                 listed.add(function)
                 found += check_row(tree, row, function)
-                if head != "part" and not names(row.get("once", "")):
+                if not once_of(row) and not is_equation(tree, row):
                     found.append(f"{function}: no theorem that it allows one outcome")
     public = tree.public_functions
     found += [f"{function}: no row" for function in sorted(public - listed)]

@@ -46,4 +46,15 @@ static inline void second_slot(const struct format *f, size_t slot, const uint8_
     memcpy(second + to, f->pilot == 4 ? FOUR2[slot] : PILOT2[slot], f->slot - to);
 }
 
+static inline void write_antenna(const struct format *f, size_t slot, size_t antenna, size_t tpc, const uint8_t *data,
+                                 const uint8_t *tfci, uint8_t *out) {
+    if (antenna == 0) {
+        write_slot(f, slot, tpc, data, tfci, out);
+        return;
+    }
+    uint8_t first[LONGEST];
+    write_slot(f, slot, tpc, data, tfci, first);
+    second_slot(f, slot, first, out);
+}
+
 #endif

@@ -30,6 +30,16 @@ static inline size_t bank_total(const uint8_t *bank, size_t n_bank) {
     return total < BANK_HEAD || total > n_bank ? 0 : total;
 }
 
+/* A slot more behind the total. */
+static inline void put_slot(uint8_t *bank, size_t total, size_t number, const uint8_t *slot, size_t n_slot) {
+    bank[total] = (uint8_t)number;
+    bank[total + 1] = 0;
+    bank[total + 2] = (uint8_t)(n_slot >> 8);
+    bank[total + 3] = (uint8_t)n_slot;
+    memcpy(bank + total + SLOT_HEAD, slot, n_slot);
+    put_total(bank, total + n_slot + SLOT_HEAD);
+}
+
 /* Where the slot with the number begins in bytes that are a bank, or the total. */
 static inline size_t bank_find(const uint8_t *bank, size_t total, size_t number) {
     size_t at = BANK_HEAD;

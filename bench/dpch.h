@@ -63,4 +63,12 @@ static inline void take_fields(const struct format *f, const uint8_t *run, uint8
     memcpy(tfci, run + f->data1 + f->tpc, f->tfci);
 }
 
+/* The fields of a frame's slot, which is the i-th of those that are transmitted. */
+static inline void take_slot(const struct format *f, const uint8_t *frame, size_t slot, size_t i, uint8_t *data, uint8_t *tfci,
+                             uint8_t *commands) {
+    const uint8_t *run = frame + slot * f->slot;
+    take_fields(f, run, data + i * data_of(f), tfci + i * f->tfci);
+    commands[i] = run[f->data1];
+}
+
 #endif

@@ -14,13 +14,7 @@ uint64_t plain_slot_map_antenna(size_t format, size_t slot, size_t antenna, size
     if (n_out != f->slot) return refuse(3, 2);
     uint64_t refusal = check_fields(f, 0, tpc, data, tfci);
     if (refusal) return refusal;
-    if (antenna == 0) {
-        write_slot(f, slot, tpc, data, tfci, out);
-        return 0;
-    }
-    uint8_t first[LONGEST];
-    write_slot(f, slot, tpc, data, tfci, first);
-    second_slot(f, slot, first, out);
+    write_antenna(f, slot, antenna, tpc, data, tfci, out);
     return 0;
 }
 

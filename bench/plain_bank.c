@@ -28,12 +28,7 @@ uint64_t plain_bank_store(uint8_t *bank, size_t n_bank, size_t number, const uin
     if (i < n_slot) return refuse(4, i);
     if (bank_find(bank, total, number) < total) return refuse(30, 0);
     if (total + n_slot + SLOT_HEAD > n_bank) return refuse(31, 0);
-    bank[total] = (uint8_t)number;
-    bank[total + 1] = 0;
-    bank[total + 2] = (uint8_t)(n_slot >> 8);
-    bank[total + 3] = (uint8_t)n_slot;
-    memcpy(bank + total + SLOT_HEAD, slot, n_slot);
-    put_total(bank, total + n_slot + SLOT_HEAD);
+    put_slot(bank, total, number, slot, n_slot);
     return 0;
 }
 

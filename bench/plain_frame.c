@@ -35,11 +35,7 @@ uint64_t plain_frame_read(size_t format, const uint8_t *frame, size_t n_frame, u
         uint64_t refusal = check_slot(f, slot, frame + slot * f->slot, slot * f->slot);
         if (refusal) return refusal;
     }
-    for (size_t slot = 0; slot < SLOTS; slot++) {
-        const uint8_t *run = frame + slot * f->slot;
-        take_fields(f, run, data + slot * slot_data, tfci + slot * f->tfci);
-        commands[slot] = run[f->data1];
-    }
+    for (size_t slot = 0; slot < SLOTS; slot++) take_slot(f, frame, slot, slot, data, tfci, commands);
     return 0;
 }
 

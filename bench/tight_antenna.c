@@ -10,13 +10,7 @@ uint64_t tight_slot_map_antenna(size_t format, size_t slot, size_t antenna, size
         n_out != f->slot || tpc > 1 || any_above(tfci, n_tfci, 2) || is_mixed(tfci, n_tfci) || any_above(data, n_data, 2)) {
         return plain_slot_map_antenna(format, slot, antenna, tpc, data, n_data, tfci, n_tfci, out, n_out);
     }
-    if (antenna == 0) {
-        write_slot(f, slot, tpc, data, tfci, out);
-        return 0;
-    }
-    uint8_t first[LONGEST];
-    write_slot(f, slot, tpc, data, tfci, first);
-    second_slot(f, slot, first, out);
+    write_antenna(f, slot, antenna, tpc, data, tfci, out);
     return 0;
 }
 

@@ -63,10 +63,7 @@ uint64_t tight_compressed_read(size_t format, size_t kind, size_t first, size_t 
         return plain_compressed_read(format, kind, first, missing, frame, n_frame, data, n_data, tfci, n_tfci, commands, n_commands);
     }
     for (size_t slot = 0, i = 0; slot < SLOTS; slot++) {
-        if (is_missing(first, missing, slot)) continue;
-        const uint8_t *run = frame + slot * f->slot;
-        take_fields(f, run, data + i * n, tfci + i * f->tfci);
-        commands[i++] = run[f->data1];
+        if (!is_missing(first, missing, slot)) take_slot(f, frame, slot, i++, data, tfci, commands);
     }
     return 0;
 }

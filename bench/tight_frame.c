@@ -43,11 +43,7 @@ uint64_t tight_frame_read(size_t format, const uint8_t *frame, size_t n_frame, u
         any_misfit(f, frame)) {
         return plain_frame_read(format, frame, n_frame, data, n_data, tfci, n_tfci, commands, n_commands);
     }
-    for (size_t slot = 0; slot < SLOTS; slot++) {
-        const uint8_t *run = frame + slot * f->slot;
-        take_fields(f, run, data + slot * n, tfci + slot * f->tfci);
-        commands[slot] = run[f->data1];
-    }
+    for (size_t slot = 0; slot < SLOTS; slot++) take_slot(f, frame, slot, slot, data, tfci, commands);
     return 0;
 }
 

@@ -8,12 +8,11 @@
  *     bits 48 to 63   value    what the call answers beside it, 0 where refused
  *
  * What a caller owes, for every pointer that is passed with a length:
- *   - the length is in elements, and that many elements stand behind the pointer;
+ *   - the length is in elements, and that many elements stand behind the pointer, aligned for their type;
  *   - NULL is allowed only with length 0;
  *   - a run that is written does not overlap any other run of the call;
- *   - nobody else writes a run during the call.
- * What is owed for the one pointer without a length, last of slt_desk_serve, is said there.
- * For a pointer that comes without a length (the tally of the wake simulation): it is not NULL, it is aligned for its type, what it
+ *   - nobody else writes a run during the call, or reads one that the call writes.
+ * For a pointer that comes without a length (the desk's, and those of the wake simulation): it is not NULL, it is aligned for its type, what it
  * points to lies apart from every run of the call and from what every other such pointer points to, and nobody else reads or writes
  * it during the call.
  *
@@ -175,7 +174,7 @@ uint64_t slt_pccpch_read(const uint8_t *antenna1, size_t n_antenna1, const uint8
                          size_t n_data);
 
 /* HS-PDSCH (TS 25.211, 5.3.3.13): formats 0, QPSK, and 1, 16QAM; data, 0 or 1, and a subframe of three slots for each antenna, 960 digits
- * each in format 0 and 1920 in format 1. In reading, antenna 2's places start at that length. */
+ * each in format 0 and 1920 in format 1. In reading, antenna 2's places start at that length. Lengths are asked in the order of the arguments. */
 uint64_t slt_hspdsch_map(size_t format, const uint8_t *data, size_t n_data, uint8_t *antenna1, size_t n_antenna1, uint8_t *antenna2,
                          size_t n_antenna2);
 uint64_t slt_hspdsch_read(size_t format, const uint8_t *antenna1, size_t n_antenna1, const uint8_t *antenna2, size_t n_antenna2,
@@ -208,7 +207,8 @@ uint64_t slt_hspdsch_lengths(size_t format, size_t run);
 uint64_t slt_aich_map(const int32_t *indicators, size_t n_indicators, int32_t *values, size_t n_values);
 uint64_t slt_aich_read(const int32_t *values, size_t n_values, int32_t *indicators, size_t n_indicators);
 
-/* The same under a set of available signatures, bit s for signature s: the indicator of any other signature must be 0. */
+/* The same under a set of available signatures, bit s for signature s: the indicator of any other signature must be 0.
+ * Lengths are asked in the order of the arguments, as without a set. */
 uint64_t slt_aich_map_available(uint16_t available, const int32_t *indicators, size_t n_indicators, int32_t *values,
                                 size_t n_values);
 uint64_t slt_aich_read_available(uint16_t available, const int32_t *values, size_t n_values, int32_t *indicators,
@@ -233,7 +233,7 @@ uint64_t slt_desk_to_message(size_t timing);
 uint64_t slt_aich_combine(int64_t h1_re, int64_t h1_im, int64_t h2_re, int64_t h2_im, const int32_t *received,
                           size_t n_received, int64_t *results, size_t n_results);
 
-/* Samples: two whole values -16 to 16 times a level 1/1024 to 1024, rounded once to nearest even; antenna 0 or 1.
+/* Samples: two whole values -16 to 16 times a level 1/1024 to 1024, rounded once to nearest even; antenna 0 is antenna 1, 1 is antenna 2.
  * The answer is packed as everywhere, with value 0; a refused sample, and one of a transmitter that is off, is +0, +0.
  * The caller keeps the default rounding mode. */
 typedef struct {

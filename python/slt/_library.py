@@ -11,7 +11,7 @@ from . import _numbers
 from ._rows import CALLS, Number, Run
 
 # The C interface that this package is written for. The first number is in the library's name as the loader knows it.
-VERSION = "1.0"
+VERSION = "2.0"
 SONAME = "libslt.so." + VERSION.partition(".")[0]
 # Names a file, and then no other is tried.
 VARIABLE = "SLT_LIBRARY"

@@ -119,18 +119,22 @@ def value(row: Row, name: str, text: str) -> Any:
     return digits(text) if argument.kind == "uint8_t" else [int(part) for part in text.split(",") if part]
 
 
+def unfolded(text: str) -> str:
+    """A run as it is; a long one is told by what it repeats and up to what length, and by what stands beside that."""
+    found = ""
+    for part in text.split(","):
+        repeated, star, length = part.partition("*")
+        found += "".join(repeated[place % len(repeated)] for place in range(int(length))) if star else part
+    return found
+
+
 def letters(text: str) -> bytes:
     """Bytes of a file or of a bank: one from 0 to 9 is that digit, any other its letter."""
     return bytes(int(letter) if letter.isdigit() else ord(letter) for letter in text)
 
 
 def digits(text: str) -> List[int]:
-    """Digits; a long run is told by what it repeats and up to how many digits, and by what stands behind those."""
-    found = []
-    for part in text.split(","):
-        repeated, star, length = part.partition("*")
-        found += [int(repeated[place % len(repeated)]) for place in range(int(length) if star else len(part))]
-    return found
+    return [int(letter) for letter in unfolded(text)]
 
 
 def values(function: str, names: Dict[str, str], found: Dict[str, str]) -> Dict[str, Any]:
@@ -180,7 +184,7 @@ def job_cases() -> List[Tuple[bytes, str]]:
     """The job files of the cases, and what is printed for each."""
     text = (ROOT / "crates/cases/stdout").read_text(encoding="ascii")
     found = re.findall(r"^[\w ]+: job file=(\S*)\n((?:(?:SLT|AICH|PICH|DPCH|refused) .*\n)+)", text, re.M)
-    return [(letters(file), printed) for file, printed in found]
+    return [(letters(unfolded(file)), printed) for file, printed in found]
 
 
 def arguments(case: Case) -> Dict[str, Any]:

@@ -106,8 +106,8 @@ class Finding(unittest.TestCase):
     def test_where_there_is_none(self) -> None:
         """What was tried is told."""
         with self.assertRaises(OSError) as raised:
-            _library.open_first(["/no/such/folder/libslt.so.1", "libslt-of-nobody.so.1"])
-        for told in ("/no/such/folder/libslt.so.1", "libslt-of-nobody.so.1", "SLT_LIBRARY"):
+            _library.open_first(["/no/such/folder/libslt.so.2", "libslt-of-nobody.so.2"])
+        for told in ("/no/such/folder/libslt.so.2", "libslt-of-nobody.so.2", "SLT_LIBRARY"):
             self.assertIn(told, str(raised.exception))
 
     def test_the_variable_decides(self) -> None:

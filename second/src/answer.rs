@@ -50,8 +50,13 @@ impl Answer {
 
     /// The answer of a call that hands back runs only: done with value 0, or the refusal.
     pub fn of<T>(outcome: &Result<T, Refusal>) -> Answer {
+        Answer::telling(outcome, |_| 0)
+    }
+
+    /// The answer of a call that tells a value of what it gives, or the refusal.
+    pub fn telling<T>(outcome: &Result<T, Refusal>, value: impl FnOnce(&T) -> u16) -> Answer {
         match outcome {
-            Ok(_) => Answer::done(0),
+            Ok(given) => Answer::done(value(given)),
             Err(refusal) => Answer::refused(*refusal),
         }
     }

@@ -9,6 +9,9 @@ use std::fmt::Debug;
 /// How many guard elements stand on each side of the run.
 const GUARD: usize = 16;
 
+/// How many elements of a run a message shows.
+const SHOWN: usize = 40;
+
 /// What a lent run is made of.
 pub trait Element: Copy + PartialEq + Debug {
     /// A filling that no rule ever gives, different from salt to salt and from index to index.
@@ -27,59 +30,52 @@ impl Element for u8 {
     }
 }
 
-impl Element for i32 {
-    /// Far beyond every value and indicator.
-    fn pattern(salt: u64, index: usize) -> i32 {
-        0x5a5a_5a00 | five_bits(salt, index) as i32
-    }
+/// Numbers hold one that is far beyond every value, indicator, signature, count, SFN and result.
+macro_rules! far_beyond {
+    ($($number:ty: $far:literal),*) => {
+        $(impl Element for $number {
+            fn pattern(salt: u64, index: usize) -> $number {
+                $far | five_bits(salt, index) as $number
+            }
+        })*
+    };
 }
 
-impl Element for u32 {
-    /// Far beyond every SFN, and not where a count ends.
-    fn pattern(salt: u64, index: usize) -> u32 {
-        0x5a5a_5a00 | five_bits(salt, index) as u32
-    }
-}
+far_beyond!(i32: 0x5a5a_5a00, u32: 0x5a5a_5a00, usize: 0x5a5a_5a00, i64: 0x5a5a_5a5a_5a5a_5a00);
 
-impl Element for i64 {
-    /// Far beyond every result of the combiner.
-    fn pattern(salt: u64, index: usize) -> i64 {
-        0x5a5a_5a5a_5a5a_5a00 | five_bits(salt, index) as i64
-    }
-}
-
-impl Element for usize {
-    /// Far beyond every signature.
-    fn pattern(salt: u64, index: usize) -> usize {
-        0x5a5a_5a00 | five_bits(salt, index) as usize
-    }
-}
-
-pub struct Lent<T> {
+/// A run that is lent for one call: its name, what it holds, and what it must hold after the call.
+pub struct Lent<'a, T> {
+    name: &'static str,
     /// Guard, run, guard.
     store: Vec<T>,
     /// The same as it was before the call.
     before: Vec<T>,
+    /// What the run is to hold after the call. Where there is nothing, it is to stay as it was: a run that is only read, or
+    /// a refusal.
+    due: Option<&'a [T]>,
+    /// Whether the run held anything before the call.
+    held: bool,
     /// Whether the library is given NULL, which is allowed with length 0 only.
     null: bool,
 }
 
-impl<T: Element> Lent<T> {
-    /// A run the library reads. `None` is NULL with length 0.
-    pub fn holding(run: Option<&[T]>, salt: u64) -> Lent<T> {
-        let mut lent = Lent::room(run.map(<[T]>::len), salt);
+impl<'a, T: Element> Lent<'a, T> {
+    /// A run that holds something, and is to hold `due` after the call. `None` is NULL with length 0.
+    pub fn holding(name: &'static str, run: Option<&[T]>, due: Option<&'a [T]>, salt: u64) -> Lent<'a, T> {
+        let mut lent = Lent::room(name, run.map(<[T]>::len), due, salt);
         let run = run.unwrap_or(&[]);
         lent.store[GUARD..GUARD + run.len()].copy_from_slice(run);
         lent.before.copy_from_slice(&lent.store);
+        lent.held = true;
         lent
     }
 
-    /// A run of the given length the library may write. `None` is NULL with length 0.
-    pub fn room(length: Option<usize>, salt: u64) -> Lent<T> {
+    /// A run of the given length that is to hold `due` after the call. `None` is NULL with length 0.
+    pub fn room(name: &'static str, length: Option<usize>, due: Option<&'a [T]>, salt: u64) -> Lent<'a, T> {
         let all = GUARD + length.unwrap_or(0) + GUARD;
         let store: Vec<T> = (0..all).map(|index| T::pattern(salt, index)).collect();
         let before = store.clone();
-        Lent { store, before, null: length.is_none() }
+        Lent { name, store, before, due, held: false, null: length.is_none() }
     }
 
     /// The length that is passed with the pointer, in elements.
@@ -100,30 +96,38 @@ impl<T: Element> Lent<T> {
     pub fn run(&self) -> &[T] {
         &self.store[GUARD..GUARD + self.len()]
     }
+}
 
-    /// What is wrong if run and guards should be exactly as before: a run that is only read, or a refusal.
-    pub fn kept(&self, name: &str) -> Option<String> {
-        self.holds(name, &self.before[GUARD..GUARD + self.len()])
+/// What a judge asks of a lent run, whatever it is made of.
+pub trait Judged {
+    /// What was lent.
+    fn in_words(&self) -> String;
+
+    /// What is wrong after the call.
+    fn wrong(&self) -> Option<String>;
+}
+
+impl<T: Element> Judged for Lent<'_, T> {
+    fn in_words(&self) -> String {
+        let held = &self.before[GUARD..GUARD + self.len()];
+        let what = match held {
+            _ if self.null => "NULL".to_string(),
+            _ if !self.held => format!("room for {}", held.len()),
+            _ if held.len() <= SHOWN => format!("{held:?}"),
+            _ => format!("{:?} and {} more", &held[..SHOWN], held.len() - SHOWN),
+        };
+        format!("{} {what}", self.name)
     }
 
-    /// What is wrong if the run should hold `expected` and the guards should be as before.
-    pub fn holds(&self, name: &str, expected: &[T]) -> Option<String> {
+    fn wrong(&self) -> Option<String> {
         let end = GUARD + self.len();
         let head = first_difference(&self.before[..GUARD], &self.store[..GUARD]);
-        let run = first_difference(expected, &self.store[GUARD..end]);
+        let run = first_difference(self.due.unwrap_or(&self.before[GUARD..end]), &self.store[GUARD..end]);
         let tail = first_difference(&self.before[end..], &self.store[end..]);
-        let said = |part: &str, what: String| format!("{name}{part}{what}");
+        let said = |part: &str, what: String| format!("{}{part}{what}", self.name);
         head.map(|what| said(", guard before it", what))
             .or_else(|| run.map(|what| said("", what)))
             .or_else(|| tail.map(|what| said(", guard after it", what)))
-    }
-
-    /// What is wrong after a call that should have written `expected`, or nothing at all where there is none.
-    pub fn after(&self, name: &str, expected: Option<&[T]>) -> Option<String> {
-        match expected {
-            Some(run) => self.holds(name, run),
-            None => self.kept(name),
-        }
     }
 }
 
@@ -136,5 +140,48 @@ fn first_difference<T: Element>(expected: &[T], got: &[T]) -> Option<String> {
     match pairs.enumerate().find(|(_, (wanted, found))| wanted != found) {
         Some((index, (wanted, found))) => Some(format!("[{index}]: expected {wanted:?}, got {found:?}")),
         None => Some(format!(": expected {} elements, room for {}", expected.len(), got.len())),
+    }
+}
+
+#[cfg(test)]
+mod tests {
+    use super::{GUARD, Judged, Lent};
+
+    /// What is wrong with a run when the library has written a byte at a place, counted from the guard before it.
+    fn after(mut lent: Lent<u8>, place: usize, byte: u8) -> Option<String> {
+        lent.store[place] = byte;
+        lent.wrong()
+    }
+
+    #[test]
+    fn a_run_that_is_read_is_kept() {
+        let run = || Lent::holding("run", Some(&[1, 2, 3]), None, 5);
+        assert_eq!(run().wrong(), None);
+        assert_eq!(after(run(), GUARD + 1, 7), Some("run[1]: expected 2, got 7".to_string()));
+    }
+
+    #[test]
+    fn a_room_is_written_or_kept() {
+        let due = [0, 1];
+        let mut written = Lent::room("out", Some(2), Some(&due), 5);
+        assert!(written.wrong().is_some());
+        written.store[GUARD..GUARD + 2].copy_from_slice(&due);
+        assert_eq!(written.wrong(), None);
+        assert!(after(Lent::room("out", Some(2), None, 5), GUARD, 0).is_some());
+        assert!(Lent::room("out", Some(3), Some(&due), 5).wrong().is_some());
+    }
+
+    #[test]
+    fn no_byte_beside_a_run_changes() {
+        for place in [0, GUARD - 1, GUARD + 1, GUARD + 16] {
+            assert!(after(Lent::holding("run", Some(&[1]), Some(&[1]), 5), place, 0).unwrap().contains("guard"));
+        }
+    }
+
+    #[test]
+    fn in_words() {
+        assert_eq!(Lent::holding("run", Some(&[1_u8, 2]), None, 5).in_words(), "run [1, 2]");
+        assert_eq!(Lent::<u8>::room("out", Some(2), None, 5).in_words(), "out room for 2");
+        assert_eq!(Lent::<u8>::room("out", None, None, 5).in_words(), "out NULL");
     }
 }

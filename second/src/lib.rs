@@ -1,5 +1,6 @@
 //! What the programs of this package stand on: the rules, written a second time from docs/RULES.md alone
-//! (`rules/`), the laws that the encoder of the second antenna keeps (`laws.rs`), and the inputs that several try.
+//! (`rules/`), which numbers each call can answer (`numbers.rs`), the laws that the encoder of the second antenna keeps
+//! (`laws.rs`), the inputs that several try, and the buffers that are lent for a call (`lent.rs`).
 //! Nothing here knows the library or the program that is judged.
 
 #![deny(warnings)]
@@ -10,5 +11,7 @@
 pub mod answer;
 pub mod fields;
 pub mod laws;
+pub mod lent;
+pub mod numbers;
 pub mod random;
 pub mod rules;

@@ -2,7 +2,8 @@
 //!
 //! Every rule is written here a second time, from docs/RULES.md alone (`rules/`), and every call of the
 //! library is made on many inputs and compared with it (`compare/`): the number, the place, the value, and every
-//! element of every lent run afterwards. The first difference is printed and ends the run with status 1.
+//! element of every lent run afterwards. The first difference is printed and ends the run with status 1; so does, at the
+//! end, a number that a call can answer and that no comparison reached (`numbers.rs`).
 //!
 //! One channel is one file in `rules/` and one in `compare/`; it is run by one line of `CHANNELS` below. Programs
 //! of their own compare the program that reads job files (`bin/jobs/`), print the cases that docs/RULES.md names
@@ -17,10 +18,9 @@ mod compare;
 #[allow(unsafe_code)]
 mod ffi;
 mod judge;
-mod lent;
 
 use judge::Judge;
-use second::{answer, fields, laws, random, rules};
+use second::{answer, fields, laws, lent, numbers, random, rules};
 
 /// The name of a channel and what runs all of its comparisons.
 type Channel = (&'static str, fn(&mut Judge));
@@ -48,11 +48,20 @@ const CHANNELS: &[Channel] = &[
 
 fn main() {
     let mut total = 0;
+    let mut seen = numbers::Seen::new();
     for (name, all) in CHANNELS {
         let mut judge = Judge::new();
         all(&mut judge);
         println!("{name}: {} comparisons", judge.comparisons());
         total += judge.comparisons();
+        for (call, given) in judge.seen() {
+            seen.entry(call).or_default().extend(given);
+        }
     }
-    println!("second: {total} comparisons, all equal");
+    let wrong = numbers::differences(&seen);
+    if !wrong.is_empty() {
+        println!("INCOMPLETE: {}", wrong.join("\nINCOMPLETE: "));
+        std::process::exit(1);
+    }
+    println!("second: {total} comparisons, all equal, on each number that each of {} calls can answer", seen.len());
 }

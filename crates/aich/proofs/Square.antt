@@ -14,7 +14,6 @@ use lib.IntN.{ℤ, pos, _+ℤ_, _-ℤ_}
 use mir.Syntax.{w32}
 use Rattle.run.proofs.Front.{Front, front-length, front-store}
 use Rattle.whole.specs.Bound.{Bounded}
-use Rattle.whole.proofs.Bound.{b-weaken}
 use Rattle.aich.specs.Rule.{valuesOf}
 use Rattle.aich.specs.Method.{Sixteen, folded, Turned, halfOf}
 use Rattle.aich.proofs.Laws.{entry, value-from-half}

@@ -6,7 +6,7 @@ use mathlib.Core.List.{List, [], _∷_, _++_, map, append-assoc, append-nil}
 use Prim.Native.Nat.{ℕ, zero, suc, _+_, _-_, _%_, _≤_, _<_}
 use native.Mathlib.Nat.{not-suc-le-zero}
 use native.Mathlib.Omega.{arith}
-use borrow.Author.Tests.{eqb-true, eqb-false, leb-true, le-leb, lt-leb, ltb-true, ltb-false}
+use borrow.Author.Tests.{eqb-true, leb-true, le-leb, lt-leb, ltb-true, ltb-false}
 use borrow.Rule.Slice.PartMut.{putMid, midOf}
 use lib.Dec.{eqb, leb, ltb, lit<}
 use lib.ListN.{length, getD, take, drop, length-drop, List·getD-eq-default}
@@ -112,7 +112,7 @@ pilot-is format slot = side (eqb (formatOf format .pilot) 2) refl
         let p = pilot-end format in
         let q = format-second-pilots format slot in
         let n : formatOf format .slot - pilotStart format ≡ formatOf format .pilot = omega arith in
-        record { long = rw (e, n) (q .long); cut-from = rw (e, n) (q .cut-from (eqb-false _ _ e)); enough = rw (e, n) (q .enough (eqb-false _ _ e)) }
+        record { long = rw (e, n) (q .long); cut-from = rw (e, n) (q .cut-from); enough = rw (e, n) (q .enough) }
 
 module _ (format slot : ℕ) (xs : List ℕ) (long : length xs ≡ formatOf format .slot) where
   pub coded-long : length (coded format xs) ≡ codedTo format - codedFrom format

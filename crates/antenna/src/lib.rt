@@ -36,7 +36,7 @@ fn write(format: usize, f: Format, slot: usize, first: &[u8], out: &mut [u8])
     let e = coded_to(format, f);
     let n = first.len();
     copy(&mut out[0..a], first);
-    sttd::encode(&first[a..e], &mut out[a..e]);
+    sttd_digits::encode(&first[a..e], &mut out[a..e]);
     write_second(&mut out[e..n], slot);
 }
 

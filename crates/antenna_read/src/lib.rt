@@ -41,7 +41,7 @@ fn compare(format: usize, slot: usize, first: &[u8], second: &[u8], implied: &mu
     ensures { λ r. ⌜ r ≡ firstBad (agree (secondOf format slot (now (first .entry))) (now (second .entry))) (formatOf format .slot) ⌝ }
 {
     antenna::second_of(format, slot, first, implied);
-    scan::first_diff(implied, second)
+    scan_diff::first_diff(implied, second)
 }
 
 // Where the second stream differs from what the first implies. A short slot needs but a short run.
@@ -79,8 +79,8 @@ fn is_same(s: &[u8], t: &[u8]) -> bool
     ensures { λ r. ⌜ (r ≡ true → Every (agree (now (s .entry)) (now (t .entry))) (length (now (s .entry)))) ⌝ }
 {
     match s.len() {
-        80 => scan::same_front(s, t, 80),
-        _ => s.len() <= scan::first_diff(s, t),
+        80 => scan_diff::same_front(s, t, 80),
+        _ => s.len() <= scan_diff::first_diff(s, t),
     }
 }
 

@@ -20,7 +20,7 @@ use Rattle.bank.specs.Slots.{Slot, has, stored, fetched, without, taken,
 use Rattle.bank.specs.Plain.{storePlain, dropPlain, fetchPlain, Call, stores, drops, after, afterAll}
 use Rattle.bank.specs.Layout.{layout, slotsIn, isRoom, isBank}
 use Rattle.bank.specs.Outcome.{emptyVerdict, storeVerdict, dropVerdict, fetchVerdict, roomVerdict}
-use Rattle.bank.specs.Exact.{Holds, Bijection, Keeps, Seen, Unseen, Made, emptied, stored-in, dropped, AllMade, none, more, AfterCalls, RoomAgain, Once, Packs}
+use Rattle.bank.specs.Exact.{Holds, Bijection, Keeps, Seen, Unseen, Made, emptied, stored-in, dropped, AllMade, none, more, AfterCalls, RoomAgain, Once, PartsOnce, Packs}
 use Rattle.bank.proofs.Calls.{drop-done, store-done}
 use Rattle.bank.proofs.Change.{taken-stored, taken-dropped}
 use Rattle.bank.proofs.Front.{length-low, room-low}
@@ -276,6 +276,18 @@ once =
       fetch = λ bank number out a b x y p q. (one-outcome (p .verdict-is) (q .verdict-is), one-outcome (p .out-is) (q .out-is));
       length-of = λ bank number a b p q. counted (one-outcome (p .verdict-is) (q .verdict-is)) (one-outcome (p .count-is) (q .count-is));
       room = λ bank a b p q. counted (one-outcome (p .verdict-is) (q .verdict-is)) (one-outcome (p .count-is) (q .count-is));
+    }
+
+pub parts-once : PartsOnce
+parts-once =
+    record {
+      find = λ bank number a b p q i.
+          record {
+            verdict = one-outcome (p .verdict-is) (q .verdict-is) i;
+            total = one-outcome (p .total-is) (q .total-is) i;
+            start = one-outcome (p .start-is) (q .start-is) i;
+            length = one-outcome (p .length-is) (q .length-is) i;
+          };
     }
 
 -- ---- answers that fit

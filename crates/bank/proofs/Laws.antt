@@ -56,10 +56,6 @@ pub taken-append : (ss ts : List Slot) → taken (ss ++ ts) ≡ taken ss + total
 unfolding taken
 taken-append ss ts = let r = total-append ss ts in omega arith
 
-pub total-one : (s : Slot) (ss : List Slot) → total (map sizeOf (s ∷ ss)) ≡ sizeOf s + total (map sizeOf ss)
-unfolding total
-total-one s ss = refl
-
 pub head-length : (n : ℕ) → length (head n) ≡ 8
 unfolding head
 head-length n = refl

@@ -11,10 +11,11 @@ use Rattle.run.specs.Refusals.{bankRefused, roomRefused}
 use Rattle.run.specs.Verdicts.{refused, leaves, Narrow}
 use Rattle.run.specs.Written.{over}
 use Rattle.bank.specs.declared.Counted.{Counted}
+use Rattle.bank.specs.declared.Found.{Found}
 use Rattle.bank.specs.Slots.{Slot, fetched, taken, isList}
 use Rattle.bank.specs.Plain.{storePlain, dropPlain, fetchPlain, Call, empties, stores, drops, after, afterAll}
 use Rattle.bank.specs.Layout.{layout, totalIn, slotsIn, isRoom, isBank}
-use Rattle.bank.specs.Outcome.{emptyVerdict, Empty, storeVerdict, Store, dropVerdict, Drop, Length, fetchVerdict, Fetch, roomVerdict, Room}
+use Rattle.bank.specs.Outcome.{emptyVerdict, Empty, storeVerdict, Store, dropVerdict, Find, Drop, Length, fetchVerdict, Fetch, roomVerdict, Room}
 
 -- bytes hold a list of slots: a bank can hold it, and its layout stands in front
 pub record Holds (bytes : List ℕ) (slots : List Slot) : Type 0 where
@@ -106,6 +107,10 @@ pub record Once : Type 0 where
   pub fetch : (bank : List ℕ) (number : ℕ) (out : List ℕ) (a b : Verdict) (x y : List ℕ) → Fetch bank number out a x → Fetch bank number out b y → (a ≡ b) × (x ≡ y)
   pub length-of : (bank : List ℕ) (number : ℕ) (a b : Counted) → Length bank number a → Length bank number b → a ≡ b
   pub room : (bank : List ℕ) (a b : Counted) → Room bank a → Room bank b → a ≡ b
+
+-- .. and so does that of the part which looks for a slot
+pub record PartsOnce : Type 0 where
+  pub find : (bank : List ℕ) (number : ℕ) (a b : Found) → Find bank number a → Find bank number b → a ≡ b
 
 -- number, place and value fit the fields of a packed answer
 pub record Packs : Type 0 where

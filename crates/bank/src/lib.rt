@@ -1,14 +1,13 @@
-// A bank of stimulus slots in a lent buffer: docs/RULES.md, 'Bank'; docs/BANK.md. Here are the parts that look at a header and at one slot, and the one that writes a header. The
-// check of a whole bank, the search for a slot and the calls stand in the crates `bank_check`, `bank_find`, `bank_read`, `bank_store` and `bank_drop`.
+// A bank of stimulus slots in a lent buffer: docs/RULES.md, 'Bank'; docs/BANK.md. Here are the parts that look at a header and at a slot's length, and the one that writes a header. The
+// look at a whole slot, the check of a whole bank, the search for a slot and the calls stand in the crates `bank_front`, `bank_check`, `bank_find`, `bank_read`, `bank_store` and `bank_drop`.
 use run::Verdict;
 ghost use mathlib.Core.Path.{_≡_};
 ghost use Prim.Native.Nat.{_+_, _≤_};
 ghost use lib.ListN.{length};
-ghost use Rattle.run.specs.First.{all, atMost};
 ghost use Rattle.run.specs.Written.{over};
 ghost use Rattle.bank.specs.Slots.{isLength};
 ghost use Rattle.bank.specs.Layout.{head, fourAt, isRoom};
-ghost use Rattle.bank.specs.Outcome.{headTotal, frontLength, frontSize};
+ghost use Rattle.bank.specs.Outcome.{headTotal, frontLength};
 
 // A verdict with a number that the call answers, 0 where it is refused.
 pub struct Counted {
@@ -106,41 +105,4 @@ pub fn front_length(s: &[u8]) -> usize
         return 0;
     }
     256 * wide(s[2]) + wide(s[3])
-}
-
-// Whether all digits are 0, 1 or 2: sixteen at a time, which are one look, and then the rest.
-fn are_digits(s: &[u8]) -> bool
-    ensures { λ r. ⌜ r ≡ all (length (now (s .entry))) (atMost 2 (now (s .entry))) ⌝ }
-{
-    let n = s.len();
-    let mut i = 0;
-    while 16 <= n - i {
-        let end = i + 16;
-        if !scan::all_at_most(&s[i..end], 2, 16) {
-            return false;
-        }
-        i = end;
-    }
-    scan::all_at_most(&s[i..n], 2, n - i)
-}
-
-// The bytes that the slot at the front of a run takes, 0 where no slot stands there.
-pub fn front_size(s: &[u8]) -> usize
-    ensures { λ r. ⌜ r ≡ frontSize (now (s .entry)) ⌝ }
-{
-    let length = front_length(s);
-    if !is_length(length) {
-        return 0;
-    }
-    let end = 4 + length;
-    if s.len() < end {
-        return 0;
-    }
-    if s[1] != 0 {
-        return 0;
-    }
-    if are_digits(&s[4..end]) {
-        return end;
-    }
-    0
 }

@@ -1,6 +1,6 @@
 // The check of a whole bank (layout, promises and theorems are those of the crate `bank`): docs/RULES.md, 'Bank'; docs/BANK.md.
-use bank::front_size;
 use bank::head_total;
+use bank_front::front_size;
 ghost use mathlib.Core.Path.{_≡_};
 ghost use Rattle.bank.specs.Layout.{isBank};
 

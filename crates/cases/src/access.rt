@@ -16,7 +16,7 @@ fn tell(line: &[u8], values: &mut [i32]) {
     let before = Desk {
         last: number(line, 1),
     };
-    let served = desk::serve(before, set(line, 2), set(line, 3), number(line, 4), values);
+    let served = desk_serve::serve(before, set(line, 2), set(line, 3), number(line, 4), values);
     let after = served.desk;
     answer::verdict(served.verdict);
     answer::text(b" last=");

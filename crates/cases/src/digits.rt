@@ -77,7 +77,7 @@ fn write_one(call: usize, line: &[u8], out: &mut [u8]) -> Verdict {
         question::PICH_READ => pich_read(line, out),
         question::DPDCH_MAP..=question::DPCCH_FRAME_MAP => uplink::write_one(call, line, out),
         question::COMPRESSED_MAP => compressed_map(line, out),
-        _ => sttd::digits(run(line, 1), out),
+        _ => sttd_digits::digits(run(line, 1), out),
     }
 }
 

@@ -1,5 +1,6 @@
 // Job files of one record. What a job prints comes on lines of its own.
 use crate::answer;
+use crate::long;
 use run::Verdict;
 use run::or_else;
 use run::shorter;
@@ -27,7 +28,7 @@ fn end(rest: &[u8], limit: u32, at: u32, size: usize) -> Verdict
 {
     let n = rest.len();
     let behind = shorter(size, n);
-    job::end(&rest[behind..n], at + small(behind), limit)
+    job_check::end(&rest[behind..n], at + small(behind), limit)
 }
 
 // The record at an offset, and what follows it.
@@ -49,7 +50,7 @@ fn first(file: &[u8], limit: u32, next: usize) {
     record(&file[from..n], limit, at);
 }
 
-pub(crate) fn print(file: &[u8]) {
+fn print(file: &[u8]) {
     let mut line = [0u8; lines::LINE];
     let opened = job_open::open(file, &mut line);
     let n = opened.length;
@@ -60,4 +61,11 @@ pub(crate) fn print(file: &[u8]) {
     } else {
         first(file, opened.limit, opened.next);
     }
+}
+
+// A file that is over-long is asked as well, so there is room for one byte more than a file of version 1 may have.
+pub(crate) fn lend(text: &[u8]) {
+    let mut file = [0; 65536];
+    let n = long::unfold(text, &mut file);
+    print(&file[..n]);
 }

@@ -10,6 +10,7 @@ mod banks;
 mod digits;
 mod hspdsch;
 mod jobs;
+mod long;
 mod question;
 mod samples;
 mod told;
@@ -46,7 +47,7 @@ fn answered(line: &[u8]) {
     answer::text(line);
     if call == question::JOB {
         answer::put(b'\n');
-        jobs::print(question::run(line, 1));
+        jobs::lend(question::run(line, 1));
     } else {
         ask(call, line);
         answer::put(b'\n');

@@ -162,7 +162,7 @@ fn behind(text: &[u8], mark: u8, k: usize) -> &[u8] {
 // What stands between the k-th mark and the next.
 pub(crate) fn piece(text: &[u8], mark: u8, k: usize) -> &[u8] {
     let rest = behind(text, mark, k);
-    let n = scan::first_equal(rest, mark);
+    let n = scan_equal::first_equal(rest, mark);
     &rest[..n]
 }
 
@@ -176,7 +176,7 @@ pub(crate) fn call(line: &[u8]) -> usize {
             b',',
             k,
         );
-        if scan::first_diff(words, name) == name.len() {
+        if scan_diff::first_diff(words, name) == name.len() {
             return k;
         }
         k += 1;
@@ -250,7 +250,7 @@ pub(crate) fn word(line: &[u8], k: usize) -> u32 {
 fn value(run: &[u8], k: usize) -> i32 {
     let text = piece(run, b',', k);
     let size = read(text, false) as i32;
-    if scan::first_equal(text, b'-') == text.len() {
+    if scan_equal::first_equal(text, b'-') == text.len() {
         size
     } else {
         0 - size

@@ -2,7 +2,7 @@
 -- Assumes nothing.
 use mathlib.Core.Path.{_≡_, refl, sym, ap, _∙_}
 use mathlib.Core.Bool.{Bool, true, false}
-use mathlib.Core.List.{List}
+use mathlib.Core.List.{List, [], _∷_}
 use Prim.Native.Nat.{ℕ, _+_, _*_, _≤_, _<_}
 use native.Mathlib.Omega.{arith}
 use borrow.Author.Tests.{eqb-true, eq-eqb, ne-eqb, ltb-true, lt-ltb, leb-true}
@@ -14,8 +14,8 @@ use Rattle.run.specs.Digits.{dtx}
 use Rattle.run.specs.First.{Every, atMost, isAt}
 use Rattle.run.specs.Parts.{part}
 use Rattle.run.specs.Refusals.{digitRefused, frameRefused}
-use Rattle.run.specs.Verdicts.{done, orElse, each, Narrow}
-use Rattle.run.proofs.Bools.{and-left, and-right}
+use Rattle.run.specs.Verdicts.{done, orElse, unless, each, lengths, Narrow}
+use Rattle.run.proofs.Bools.{and-right}
 use Rattle.run.proofs.Chain.{or-else-done, unless-done, or-else-pass, unless-pass, each-done, each-pass, AllRight, lengths-done, lengths-pass, chain-done, check-narrow, lengths-narrow, or-else-narrow, each-narrow}
 use Rattle.run.proofs.Each.{each-same}
 use Rattle.run.proofs.Parts.{part-length}
@@ -200,3 +200,25 @@ accepted-bits f row first missing xs dataLength tfciLength commandsLength a =
           command-bit f row (numberOf first missing i) (part (numberOf first missing i) (f .slot) xs) (a .slots _ l (o .number-sent i h))
           (part-length (numberOf first missing i) 15 (f .slot) xs l (a .room .frame-ok));
     }
+
+-- runs that all have their lengths are as good as none
+pub none-asked : (right : List Bool) → AllRight right → lengths right ≡ lengths []
+none-asked right h = lengths-pass right h ∙ sym (lengths-pass [] tt)
+
+-- the checks of row and gap, test by test
+module _ (f : Format) (first missing : ℕ) (right : List Bool) where
+  pub no-row : f .kind ≡ 0 → unless false 1 0 ≡ gapHead f first missing right
+  unfolding gapHead orElse unless
+  no-row e = rw e
+
+  pub no-gap : (f .kind ≡ 0 → ⊥) → gapStands f first missing ≡ false → unless false 27 0 ≡ gapHead f first missing right
+  unfolding gapHead orElse unless
+  no-gap h e = rw (lt-ltb 0 (f .kind) (omega arith), e)
+
+  pub row-and-gap : (f .kind ≡ 0 → ⊥) → gapStands f first missing ≡ true → lengths right ≡ gapHead f first missing right
+  unfolding gapHead orElse unless
+  row-and-gap h e = rw (lt-ltb 0 (f .kind) (omega arith), e)
+
+pub gap-alone : (f : Format) (first missing : ℕ) → gapHead f first missing (true ∷ true ∷ true ∷ true ∷ []) ≡ gapHead f first missing []
+unfolding gapHead
+gap-alone f first missing = rw (none-asked (true ∷ true ∷ true ∷ true ∷ []) (refl, (refl, (refl, (refl, tt)))))

@@ -22,7 +22,7 @@ use Rattle.slot.proofs.Accept.{FieldsOk, fields-pass, DigitsOk, digits-pass}
 use Rattle.slot.proofs.Exact.{fields-narrow}
 use Rattle.slot.proofs.Laws.{sound-row, compressed-row, data-small, tfci-small}
 use Rattle.slot.proofs.Rows.{shape, codec, digits-narrow}
-use Rattle.compressed.specs.Rule.{isMissing, transmitted, gapStands, frameOf, dataIn, tfciIn, commandsIn}
+use Rattle.compressed.specs.Rule.{isMissing, transmitted, frameOf, dataIn, tfciIn, commandsIn}
 use Rattle.compressed.specs.Outcome.{mapHead, mapVerdict, readHead, slotVerdict, readVerdict}
 use Rattle.compressed.specs.Ready.{Ready}
 use Rattle.compressed.specs.Exact.{GapOneToOne, Gives, Fields, ReadExact, FrameSlots, MapOnce, ReadOnce, Packs}

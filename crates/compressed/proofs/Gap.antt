@@ -1,7 +1,7 @@
 -- A gap of missing slots: the transmitted slots and the slots outside it are one to one.
 -- Assumes nothing.
 use mathlib.Core.Path.{_≡_, refl, sym, _∙_}
-use mathlib.Core.Bool.{Bool, true, false, not, true≢false}
+use mathlib.Core.Bool.{Bool, true, false, not, _&&_, true≢false}
 use Prim.Native.Nat.{ℕ, _+_, _-_, _*_, _≤_, _<_}
 use native.Mathlib.Nat.{mul-le-mul-right}
 use native.Mathlib.Omega.{arith}
@@ -19,6 +19,12 @@ sides {X} a b p q = side (ltb a b) refl
     side : (t : Bool) → ltb a b ≡ t → X
     side true e = p (ltb-true a b e)
     side false e = q (ltb-false a b e)
+
+-- the last of three tests fails
+last-false : (a b : Bool) → (a && (b && false)) ≡ false
+last-false true true = refl
+last-false true false = refl
+last-false false b = refl
 
 module _ (first missing : ℕ) where
   pub number-before : (i : ℕ) → i < first → numberOf first missing i ≡ i
@@ -75,9 +81,9 @@ module _ (first missing : ℕ) where
     unfolding gapStands
     too-many l h = rw (le-leb (f .fewest) (15 - missing) l, lt-leb (15 - missing) (f .most) h)
 
-    pub past-all : f .fewest ≤ transmitted missing → transmitted missing ≤ f .most → 15 < missing → false ≡ gapStands f first missing
+    pub past-all : 15 < missing → false ≡ gapStands f first missing
     unfolding gapStands
-    past-all l m h = rw (le-leb (f .fewest) (15 - missing) l, le-leb (15 - missing) (f .most) m, lt-leb (first + missing) 15 (omega arith))
+    past-all h = rw (lt-leb (first + missing) 15 (omega arith)) (sym (last-false (leb (f .fewest) (15 - missing)) (leb (15 - missing) (f .most))))
 
     pub ends-by : f .fewest ≤ transmitted missing → transmitted missing ≤ f .most → missing ≤ 15 → leb first (transmitted missing) ≡ gapStands f first missing
     unfolding gapStands

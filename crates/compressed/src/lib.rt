@@ -3,7 +3,6 @@
 use dpch::Format;
 use run::Verdict;
 use run::lengths;
-use run::or_else;
 use run::refusal;
 use run::unless;
 ghost use mathlib.Core.Path.{_≡_};
@@ -46,6 +45,9 @@ pub fn turn_of(first: usize, missing: usize, k: usize) -> usize
 fn gap_stands(f: Format, first: usize, missing: usize) -> bool
     ensures { λ r. ⌜ r ≡ gapStands f first missing ⌝ }
 {
+    if 15 < missing {
+        return false;
+    }
     let sent = transmitted(missing);
     if sent < f.fewest {
         return false;
@@ -53,20 +55,29 @@ fn gap_stands(f: Format, first: usize, missing: usize) -> bool
     if f.most < sent {
         return false;
     }
-    if 15 < missing {
-        return false;
-    }
     first <= sent
 }
 
-// The checks with which both calls begin: the row, the gap, then the lengths of four runs.
-fn gap_head(f: Format, first: usize, missing: usize, a: bool, b: bool, c: bool, d: bool) -> Verdict
+// The checks with which both calls begin: the row, the gap, then the lengths of four runs. What is refused is told at once: past the row the compiler knows that it is of kind A
+// or B.
+pub fn gap_head(
+    f: Format,
+    first: usize,
+    missing: usize,
+    a: bool,
+    b: bool,
+    c: bool,
+    d: bool,
+) -> Verdict
     ensures { λ r. ⌜ r ≡ gapHead f first missing (a ∷ b ∷ c ∷ d ∷ []) ⌝ }
 {
-    let right = lengths(a, b, c, d);
-    let stands = gap_stands(f, first, missing);
-    let gap = or_else(unless(stands, refusal::GAP, 0), right);
-    or_else(unless(0 < f.kind, refusal::FORMAT, 0), gap)
+    if f.kind == 0 {
+        return unless(false, refusal::FORMAT, 0);
+    }
+    if gap_stands(f, first, missing) {
+        return lengths(a, b, c, d);
+    }
+    unless(false, refusal::GAP, 0)
 }
 
 // The checks of row, gap and lengths before a frame is mapped.

@@ -41,7 +41,7 @@ fn silent_verdict(xs: &[u8], base: u32) -> Verdict
     if DTX <= lowest(xs) {
         return above;
     }
-    found(xs, scan::first_other(xs, DTX), refusal::FRAME, base)
+    found(xs, scan_equal::first_other(xs, DTX), refusal::FRAME, base)
 }
 
 // .. of slot k, missing or not.

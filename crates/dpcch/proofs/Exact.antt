@@ -32,9 +32,9 @@ use Rattle.dpdch.proofs.Laws.{slots-never}
 use Rattle.dpcch.specs.Rule.{fieldsOf, slotOf, pilotIn, tfciIn, fbiIn, tpcIn, commandIn, frameOf, frameTfciIn, frameFbiIn, commandsIn}
 use Rattle.dpcch.specs.Outcome.{mapHead, fieldsVerdict, mapVerdict, readHead, digitsVerdict, readVerdict, frameMapHead, slotFields, frameMapVerdict, frameReadHead, slotDigits, frameReadVerdict}
 use Rattle.dpcch.specs.Ready.{Sound, Whole, Bits, FrameReady}
-use Rattle.dpcch.specs.Exact.{Gives, Fields, Exact, ReadExact, FrameReadExact, SlotCuts, SlotPlaced, FrameSlots, UplinkNotSix, MapOnce, ReadOnce, FrameMapOnce, FrameReadOnce, Packs}
+use Rattle.dpcch.specs.Exact.{Fields, Exact, ReadExact, FrameReadExact, SlotCuts, SlotPlaced, FrameSlots, UplinkNotSix, MapOnce, ReadOnce, FrameMapOnce, FrameReadOnce, PartsOnce, Packs}
 use Rattle.dpcch.proofs.Laws.{sound-format, start-pilot, start-tfci, start-fbi, start-tpc, fields-widths, field-of, slot-length, field-long, field-small, tfci-small, fbi-small}
-use Rattle.dpcch.proofs.Accept.{Headed, map-headed, read-headed, map-head-pass, read-head-pass, frame-map-headed, frame-read-headed, frame-map-head-pass, frame-read-head-pass, FieldsOk, fields-pass, DigitsOk, digits-pass, Mapped, mapped, FrameMapped, frame-mapped, accepted, FrameAccepted, frame-accepted}
+use Rattle.dpcch.proofs.Accept.{map-headed, read-headed, map-head-pass, read-head-pass, frame-map-headed, frame-read-headed, frame-map-head-pass, frame-read-head-pass, FieldsOk, fields-pass, DigitsOk, digits-pass, mapped, FrameMapped, frame-mapped, accepted, FrameAccepted, frame-accepted}
 use Rattle.dpcch.proofs.Frames.{shape, frame-length, frame-slot, tfci-in-length, fbi-in-length, commands-in-length}
 
 abbrev bit : ℕ → Bool
@@ -359,6 +359,13 @@ frame-map-once format tfci fbi out commands a b x y p r = (one-outcome (p .verdi
 pub frame-read-once : FrameReadOnce
 frame-read-once format xs tfci fbi commands a b x y s t u v p r =
     (one-outcome (p .verdict-is) (r .verdict-is), one-outcome (p .tfci-is) (r .tfci-is), one-outcome (p .fbi-is) (r .fbi-is), one-outcome (p .commands-is) (r .commands-is))
+
+pub parts-once : PartsOnce
+parts-once =
+    record {
+      put = λ format slot tpc tfci fbi out x y p r. one-outcome (p .out-is) (r .out-is);
+      take = λ format xs tfci fbi a b x y s t p r. (one-outcome (p .command-is) (r .command-is), one-outcome (p .tfci-is) (r .tfci-is), one-outcome (p .fbi-is) (r .fbi-is));
+    }
 
 -- ---- number, place and command fit a packed answer
 fields-narrow : (tpc : ℕ) (tfci fbi : List ℕ) (tpcPlace tfciBase fbiBase : ℕ)

@@ -15,7 +15,7 @@ use Rattle.dpch.specs.Uplink.{dpcchFormat, dpcchWidths}
 use Rattle.dpch.specs.UplinkPilots.{dpcchPilot}
 use Rattle.dpdch.specs.Outcome as dpdch
 use Rattle.dpcch.specs.Rule.{fieldsOf, slotOf, tfciIn, fbiIn, commandIn, slotAt, frameOf, frameTfciIn, frameFbiIn, commandsIn}
-use Rattle.dpcch.specs.Outcome.{mapVerdict, Map, readVerdict, Read, frameMapVerdict, FrameMap, frameReadVerdict, FrameRead}
+use Rattle.dpcch.specs.Outcome.{mapVerdict, Map, readVerdict, Read, Put, Take, frameMapVerdict, FrameMap, frameReadVerdict, FrameRead}
 
 -- of a slot, with a command, and of a frame, with fifteen, alike: what map takes and writes ..
 module _ {C : Type 0} (taken : C → List ℕ → List ℕ → Verdict) (written : C → List ℕ → List ℕ → List ℕ) where
@@ -116,6 +116,11 @@ abbrev pub FrameReadOnce : Type 0
 FrameReadOnce =
     (format : ℕ) (xs tfci fbi commands : List ℕ) (a b : Verdict) (x y s t u v : List ℕ) → FrameRead format xs tfci fbi commands a x s u → FrameRead format xs tfci fbi commands b y t v
     → (a ≡ b) × (x ≡ y) × (s ≡ t) × (u ≡ v)
+
+-- .. and so does that of each part
+pub record PartsOnce : Type 0 where
+  pub put : (format slot tpc : ℕ) (tfci fbi out x y : List ℕ) → Put format slot tpc tfci fbi out x → Put format slot tpc tfci fbi out y → x ≡ y
+  pub take : (format : ℕ) (xs tfci fbi : List ℕ) (a b : ℕ) (x y s t : List ℕ) → Take format xs tfci fbi a x s → Take format xs tfci fbi b y t → (a ≡ b) × (x ≡ y) × (s ≡ t)
 
 -- number, place and command fit the fields of a packed answer
 pub record Packs : Type 0 where

@@ -15,9 +15,9 @@ ghost use Rattle.dpcch.specs.Ready.{pilotSource, Whole};
 fn pilot_differs(s: &[u8], slot: usize) -> usize
     ensures { λ r. ⌜ r ≡ firstBad (agree (now (s .entry)) (pilotSource (length (now (s .entry))) slot)) (min (length (now (s .entry))) (length (pilotSource (length (now (s .entry))) slot))) ⌝ }
 {
-    let row = dpcch::pilot_row(slot);
-    let a = dpcch::pilot_start(s.len());
-    scan::first_diff(s, &row[a..15])
+    let row = dpcch_pilot::pilot_row(slot);
+    let a = dpcch_pilot::pilot_start(s.len());
+    scan_diff::first_diff(s, &row[a..15])
 }
 
 // The checks of a slot's digits, field by field.
@@ -33,7 +33,12 @@ pub(crate) fn check(f: Dpcch, slot: usize, xs: &[u8], base: u16) -> Verdict
     let last = found(pilot, pilot_differs(pilot, slot), refusal::PILOT, first);
     let tpc = &xs[b..c];
     let commands = or_else(
-        found(tpc, scan::first_unlike(tpc), refusal::TPC, first + b as u32),
+        found(
+            tpc,
+            scan_equal::first_unlike(tpc),
+            refusal::TPC,
+            first + b as u32,
+        ),
         last,
     );
     or_else(

@@ -10,7 +10,6 @@ use lib.Dec.{eqb, leb, lit<}
 use lib.ListN.{length, getD, take, drop}
 use lib.Seq.{getD-take}
 use Rattle.run.specs.First.{firstBad, all, Every, atMost, likeFirst, agree}
-use Rattle.run.specs.Fields.{field, start}
 use Rattle.run.specs.Verdicts.{done}
 use Rattle.run.proofs.First.{first-same}
 use Rattle.run.proofs.Bools.{and-right}

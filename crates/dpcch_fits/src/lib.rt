@@ -21,9 +21,9 @@ fn both(a: bool, b: bool) -> bool
 fn is_pilot(s: &[u8], slot: usize) -> bool
     ensures { λ r. ⌜ r ≡ (leb (length (now (s .entry))) (length (pilotSource (length (now (s .entry))) slot)) && all (length (now (s .entry))) (agree (now (s .entry)) (pilotSource (length (now (s .entry))) slot))) ⌝ }
 {
-    let row = dpcch::pilot_row(slot);
-    let a = dpcch::pilot_start(s.len());
-    scan::same_front(s, &row[a..15], s.len())
+    let row = dpcch_pilot::pilot_row(slot);
+    let a = dpcch_pilot::pilot_start(s.len());
+    scan_diff::same_front(s, &row[a..15], s.len())
 }
 
 // Each field in its own stretch, and all digits together. Of bits, TPC digits are a command where they are the same.

@@ -13,8 +13,8 @@ ghost use Rattle.dpcch.specs.Outcome.{Put};
 fn write_pilot(dst: &mut [u8], slot: usize)
     ensures { λ _. ⌜ now (dst .exit) ≡ over (pilotSource (length (now (dst .entry))) slot) (now (dst .entry)) ⌝ }
 {
-    let row = dpcch::pilot_row(slot);
-    let a = dpcch::pilot_start(dst.len());
+    let row = dpcch_pilot::pilot_row(slot);
+    let a = dpcch_pilot::pilot_start(dst.len());
     copy(dst, &row[a..15]);
 }
 

@@ -297,12 +297,12 @@ pub format-second-pilots : FormatSecondPilots
 unfolding secondPilot secondSource
 format-second-pilots format slot =
     record {
-      cut-from = at-each (λ (n : ℕ). (n ≡ 2 → ⊥) → secondPilot n slot ≡ take n (secondSource n slot)) (λ _. refl) (λ not. absurd (not refl))
-          (λ _. sym (take-all 4 _ (let n = second-long slot 1 (lit< tt) in omega arith))) (λ _. patterns-begin slot .eight)
-          (λ _. sym (take-all 16 _ (let n = second-long slot 3 (lit< tt) in omega arith))) format;
-      enough = at-each (λ (n : ℕ). (n ≡ 2 → ⊥) → n ≤ length (secondSource n slot)) (λ _. omega arith) (λ not. absurd (not refl))
-          (λ _. let n = second-long slot 1 (lit< tt) in omega arith) (λ _. let n = second-long slot 3 (lit< tt) in omega arith)
-          (λ _. let n = second-long slot 3 (lit< tt) in omega arith) format;
+      cut-from = at-each (λ (n : ℕ). secondPilot n slot ≡ take n (secondSource n slot)) refl (patterns-begin slot .two)
+          (sym (take-all 4 _ (let n = second-long slot 1 (lit< tt) in omega arith))) (patterns-begin slot .eight)
+          (sym (take-all 16 _ (let n = second-long slot 3 (lit< tt) in omega arith))) format;
+      enough = at-each (λ (n : ℕ). n ≤ length (secondSource n slot)) (omega arith) (let n = second-long slot 1 (lit< tt) in omega arith)
+          (let n = second-long slot 1 (lit< tt) in omega arith) (let n = second-long slot 3 (lit< tt) in omega arith)
+          (let n = second-long slot 3 (lit< tt) in omega arith) format;
       long = at-each (λ (n : ℕ). length (secondPilot n slot) ≡ n) refl (second-long slot 0 (lit< tt)) (second-long slot 1 (lit< tt)) (second-long slot 2 (lit< tt)) (second-long slot 3 (lit< tt)) format;
       digits = at-each (λ (n : ℕ). Each bit (secondPilot n slot)) (λ k h. absurd (not-suc-le-zero h)) (second-bits slot 0 (lit< tt)) (second-bits slot 1 (lit< tt)) (second-bits slot 2 (lit< tt)) (second-bits slot 3 (lit< tt)) format;
     }

@@ -9,7 +9,7 @@ use Rattle.dpch.specs.declared.Format.{Format}
 use Rattle.dpch.specs.Formats.{normal, kindA, kindB, noRow, formatOf}
 use Rattle.dpch.specs.Pilots.{pilotRow, pilotSource, pilotOf}
 
--- a row of a compressed format, in the table's order: Data1, Data2, TPC, TFCI, Pilot, Slot. Of a frame's slots 8 to 14 are transmitted
+-- a row of a compressed format, in the table's order: Data1, Data2, TPC, TFCI, Pilot, Slot. 8 to 14 of a frame's slots are transmitted
 abbrev pub compressedRow : ℕ → ℕ → ℕ → ℕ → ℕ → ℕ → ℕ → Format
 compressedRow kind data1 data2 tpc tfci pilot slot =
     record { data1 = data1; data2 = data2; tpc = tpc; tfci = tfci; pilot = pilot; slot = slot; kind = kind; fewest = 8; most = 14 }

@@ -82,10 +82,12 @@ pub record Doubled (format : ℕ) : Type 0 where
 abbrev pub FieldsDoubled : Type 0
 FieldsDoubled = (format : ℕ) → format ≤ 15 → Doubled format
 
--- so it is with antenna 2's pilot, where it is not one of two bits: those are encoded with the data before them
+-- ---- antenna 2
+
+-- a normal format's pilot on antenna 2 is cut from what it begins, has as many digits as the format says, and every digit is a bit
 pub record SecondPilot (format slot : ℕ) : Type 0 where
-  pub cut-from : (formatOf format .pilot ≡ 2 → ⊥) → secondPilot (formatOf format .pilot) slot ≡ take (formatOf format .pilot) (secondSource (formatOf format .pilot) slot)
-  pub enough : (formatOf format .pilot ≡ 2 → ⊥) → formatOf format .pilot ≤ length (secondSource (formatOf format .pilot) slot)
+  pub cut-from : secondPilot (formatOf format .pilot) slot ≡ take (formatOf format .pilot) (secondSource (formatOf format .pilot) slot)
+  pub enough : formatOf format .pilot ≤ length (secondSource (formatOf format .pilot) slot)
   pub long : length (secondPilot (formatOf format .pilot) slot) ≡ formatOf format .pilot
   pub digits : Every (atMost 1 (secondPilot (formatOf format .pilot) slot)) (length (secondPilot (formatOf format .pilot) slot))
 

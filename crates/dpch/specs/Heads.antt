@@ -1,5 +1,6 @@
--- docs/RULES.md, 'Numbers a call can return': the checks with which every call on a channel with a table of formats begins. `last` is the last format of the channel's table, and `right` says of each
--- lent run whether it has its length, in the order of the call.
+-- docs/RULES.md, 'Numbers a call can return': the checks with which a call on a channel with a table of formats begins. `last` is the last format of the channel's table, and `right` says of each
+-- lent run whether it has its length, in the order of the call. Two heads are spelt where they stand: that of the mapper on two antennas, which asks the antenna between slot and lengths, and that of
+-- compressed frames, which asks a row and a gap.
 -- Assumes nothing.
 use Prim.Native.Nat.{ℕ}
 use mathlib.Core.Bool.{Bool}

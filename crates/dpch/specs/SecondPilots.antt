@@ -1,7 +1,7 @@
 -- docs/RULES.md, 'DPCH on the second antenna'; TS 25.211, 5.3.2.1, table 14: the pilot bits of antenna 2, as printed.
 -- Assumes nothing.
 use Prim.Native.Nat.{ℕ}
-use mathlib.Core.Bool.{cond}
+use mathlib.Core.Bool.{cond, _||_}
 use mathlib.Core.List.{List, [], _∷_, map}
 use lib.ListN.{getD, replicate}
 use lib.Dec.{eqb}
@@ -48,6 +48,6 @@ secondPilot bits slot =
 abbrev pub rowOn : ℕ → ℕ → List ℕ
 rowOn antenna slot = cond (eqb antenna 0) (pilotRow slot) (secondPilot 16 slot)
 
--- what a pattern of so many bits is the beginning of: the 4-bit pattern, else the 16-bit one
+-- what a pattern of so many bits is the beginning of: the 4-bit pattern for two and four bits, else the 16-bit one
 unfoldable pub secondSource : ℕ → ℕ → List ℕ
-secondSource bits slot = cond (eqb bits 4) (secondPilot 4 slot) (secondPilot 16 slot)
+secondSource bits slot = cond (eqb bits 2 || eqb bits 4) (secondPilot 4 slot) (secondPilot 16 slot)

@@ -1,4 +1,4 @@
-// The downlink DPCH: slot formats and pilot bits. docs/RULES.md, 'DPCH slot'; TS 25.211, 5.3.2, tables 11 and 12, and 5.3.2.1, table 14.
+// The downlink DPCH: slot formats; its pilot bits are those of the crates `dpch_pilot` and `dpch_four`. docs/RULES.md, 'DPCH slot'; TS 25.211, 5.3.2, tables 11 and 12, and 5.3.2.1, table 14.
 // The tables of the uplink's dedicated channels stand in specs/ too, so that what every layout obeys is said once.
 use run::Verdict;
 use run::lengths;
@@ -9,8 +9,6 @@ ghost use mathlib.Core.Path.{_≡_};
 ghost use mathlib.Core.List.{[], _∷_};
 ghost use Rattle.dpch.specs.Heads.{frameHead, slotHead};
 ghost use Rattle.dpch.specs.Formats.{row, noRow, formatOf};
-ghost use Rattle.dpch.specs.Pilots.{pilotRow};
-ghost use Rattle.dpch.specs.SecondPilots.{secondPilot, rowOn};
 
 // The kinds of formats: the normal ones, those of frames compressed by higher layer scheduling, and those of frames compressed by a halved spreading factor.
 pub const NORMAL: usize = 0;
@@ -104,148 +102,6 @@ pub fn format_of(n: usize) -> Format
         15 => row(120, 488, 8, 8, 16, 640),
         16 => row(248, 1000, 8, 8, 16, 1280),
         _ => no_row(),
-    }
-}
-
-// The pilot bits of antenna 1, one row per slot.
-const PILOT: [[u8; 16]; 15] = [
-    [1, 1, 1, 1, 1, 1, 1, 0, 1, 1, 1, 1, 1, 1, 1, 0],
-    [1, 1, 0, 0, 1, 1, 1, 0, 1, 1, 1, 1, 1, 1, 0, 0],
-    [1, 1, 0, 1, 1, 1, 0, 1, 1, 1, 1, 0, 1, 1, 0, 0],
-    [1, 1, 0, 0, 1, 1, 0, 0, 1, 1, 0, 1, 1, 1, 1, 0],
-    [1, 1, 1, 0, 1, 1, 0, 1, 1, 1, 1, 1, 1, 1, 1, 1],
-    [1, 1, 1, 1, 1, 1, 1, 0, 1, 1, 0, 1, 1, 1, 0, 1],
-    [1, 1, 1, 1, 1, 1, 0, 0, 1, 1, 1, 0, 1, 1, 1, 1],
-    [1, 1, 1, 0, 1, 1, 0, 0, 1, 1, 1, 0, 1, 1, 0, 0],
-    [1, 1, 0, 1, 1, 1, 1, 0, 1, 1, 0, 0, 1, 1, 1, 1],
-    [1, 1, 1, 1, 1, 1, 1, 1, 1, 1, 0, 0, 1, 1, 1, 1],
-    [1, 1, 0, 1, 1, 1, 0, 1, 1, 1, 1, 1, 1, 1, 1, 0],
-    [1, 1, 1, 0, 1, 1, 1, 1, 1, 1, 0, 0, 1, 1, 1, 0],
-    [1, 1, 1, 0, 1, 1, 0, 0, 1, 1, 0, 1, 1, 1, 0, 1],
-    [1, 1, 0, 0, 1, 1, 1, 1, 1, 1, 0, 0, 1, 1, 0, 0],
-    [1, 1, 0, 0, 1, 1, 1, 1, 1, 1, 1, 0, 1, 1, 0, 1],
-];
-
-// The pilot bits of a slot; past the table a row that no slot has. A row that is named is copied out of read-only memory; if it were
-// counted out, the whole table would be built anew at each call.
-fn first_row(slot: usize) -> [u8; 16]
-    ensures { λ r. ⌜ r ≡ pilotRow slot ⌝ }
-{
-    let table = PILOT;
-    match slot {
-        0 => table[0],
-        1 => table[1],
-        2 => table[2],
-        3 => table[3],
-        4 => table[4],
-        5 => table[5],
-        6 => table[6],
-        7 => table[7],
-        8 => table[8],
-        9 => table[9],
-        10 => table[10],
-        11 => table[11],
-        12 => table[12],
-        13 => table[13],
-        14 => table[14],
-        _ => [1, 1, 0, 0, 1, 1, 0, 0, 1, 1, 0, 0, 1, 1, 0, 0],
-    }
-}
-
-// The pilot bits of antenna 2 as far as one row has them: the 8-bit pattern begins the 16-bit one.
-const PILOT2: [[u8; 16]; 15] = [
-    [1, 1, 0, 0, 0, 0, 1, 0, 1, 1, 0, 0, 0, 0, 1, 0],
-    [1, 1, 0, 0, 0, 0, 0, 1, 1, 1, 1, 0, 0, 0, 1, 0],
-    [1, 1, 1, 1, 0, 0, 0, 0, 1, 1, 1, 0, 0, 0, 1, 1],
-    [1, 1, 1, 0, 0, 0, 0, 1, 1, 1, 0, 0, 0, 0, 0, 0],
-    [1, 1, 1, 1, 0, 0, 1, 1, 1, 1, 0, 1, 0, 0, 1, 0],
-    [1, 1, 0, 0, 0, 0, 1, 0, 1, 1, 1, 1, 0, 0, 0, 0],
-    [1, 1, 1, 0, 0, 0, 1, 0, 1, 1, 0, 1, 0, 0, 1, 1],
-    [1, 1, 1, 0, 0, 0, 1, 1, 1, 1, 1, 0, 0, 0, 1, 1],
-    [1, 1, 0, 0, 0, 0, 0, 0, 1, 1, 0, 1, 0, 0, 0, 1],
-    [1, 1, 0, 1, 0, 0, 1, 0, 1, 1, 0, 1, 0, 0, 0, 1],
-    [1, 1, 1, 1, 0, 0, 0, 0, 1, 1, 0, 0, 0, 0, 1, 0],
-    [1, 1, 0, 1, 0, 0, 1, 1, 1, 1, 0, 0, 0, 0, 0, 1],
-    [1, 1, 1, 0, 0, 0, 1, 1, 1, 1, 1, 1, 0, 0, 0, 0],
-    [1, 1, 0, 1, 0, 0, 0, 1, 1, 1, 1, 0, 0, 0, 0, 1],
-    [1, 1, 0, 1, 0, 0, 0, 1, 1, 1, 1, 1, 0, 0, 1, 1],
-];
-
-// The pattern of four bits does not begin it, and has a table of its own.
-const FOUR2: [[u8; 4]; 15] = [
-    [0, 1, 1, 0],
-    [1, 0, 1, 0],
-    [1, 1, 1, 0],
-    [1, 0, 1, 0],
-    [0, 0, 1, 0],
-    [0, 1, 1, 0],
-    [0, 1, 1, 0],
-    [0, 0, 1, 0],
-    [1, 1, 1, 0],
-    [0, 1, 1, 0],
-    [1, 1, 1, 0],
-    [0, 0, 1, 0],
-    [0, 0, 1, 0],
-    [1, 0, 1, 0],
-    [1, 0, 1, 0],
-];
-
-fn second_row(slot: usize) -> [u8; 16]
-    ensures { λ r. ⌜ r ≡ secondPilot 16 slot ⌝ }
-{
-    let table = PILOT2;
-    match slot {
-        0 => table[0],
-        1 => table[1],
-        2 => table[2],
-        3 => table[3],
-        4 => table[4],
-        5 => table[5],
-        6 => table[6],
-        7 => table[7],
-        8 => table[8],
-        9 => table[9],
-        10 => table[10],
-        11 => table[11],
-        12 => table[12],
-        13 => table[13],
-        14 => table[14],
-        _ => [0, 0, 0, 0, 0, 0, 0, 0, 0, 0, 0, 0, 0, 0, 0, 0],
-    }
-}
-
-// The pilot bits of a slot on an antenna, number 0 for antenna 1: 16, of which the first 8 are the pilot of 8 bits, and on antenna 1 the first 4 that of 4.
-pub fn pilot_row(antenna: usize, slot: usize) -> [u8; 16]
-    ensures { λ r. ⌜ r ≡ rowOn antenna slot ⌝ }
-{
-    if antenna == 0 {
-        return first_row(slot);
-    }
-    second_row(slot)
-}
-
-// The pilot of four bits on antenna 2.
-pub fn pilot_four(slot: usize) -> [u8; 4]
-    ensures { λ r. ⌜ r ≡ secondPilot 4 slot ⌝ }
-{
-    let table = FOUR2;
-    match slot {
-        0 => table[0],
-        1 => table[1],
-        2 => table[2],
-        3 => table[3],
-        4 => table[4],
-        5 => table[5],
-        6 => table[6],
-        7 => table[7],
-        8 => table[8],
-        9 => table[9],
-        10 => table[10],
-        11 => table[11],
-        12 => table[12],
-        13 => table[13],
-        14 => table[14],
-        _ => [0, 0, 0, 0],
     }
 }
 

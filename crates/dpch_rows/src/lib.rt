@@ -67,7 +67,7 @@ pub fn format_in(kind: usize, n: usize) -> Format
 pub fn doubled_row(slot: usize) -> [u8; 32]
     ensures { λ r. ⌜ r ≡ pairsTwice (pilotRow slot) ⌝ }
 {
-    let row = dpch::pilot_row(0, slot);
+    let row = dpch_pilot::pilot_row(0, slot);
     let mut doubled = [0; 32];
     let mut k = 0;
     while k < 32 {

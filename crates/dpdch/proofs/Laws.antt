@@ -15,8 +15,8 @@ use Rattle.run.specs.Fields.{cut, joined, field}
 use Rattle.run.specs.Parts.{part}
 use Rattle.run.specs.Refusals.{tfciRefused}
 use Rattle.run.specs.Table.{tab}
-use Rattle.run.specs.Verdicts.{done, leaves, Narrow}
-use Rattle.run.proofs.Chain.{or-else-done, each-done, or-else-pass, each-pass, or-else-narrow, each-narrow, leaves-done, leaves-refused}
+use Rattle.run.specs.Verdicts.{leaves, Narrow}
+use Rattle.run.proofs.Chain.{or-else-done, each-done, or-else-narrow, each-narrow, leaves-done, leaves-refused}
 use Rattle.run.proofs.Fields.{joined-cut}
 use Rattle.run.proofs.Never.{or-else-never, each-never}
 use Rattle.run.proofs.Parts.{part-length, joined-part}
@@ -25,7 +25,7 @@ use Rattle.dpch.specs.Heads.{frameHead}
 use Rattle.dpch.specs.Uplink.{dpdchSize}
 use Rattle.dpch.specs.Layouts.{uplinkDpdch}
 use Rattle.dpch.proofs.Exact.{fields-fill, dpdch-short}
-use Rattle.dpch.proofs.Heads.{head-two, frame-headed, frame-head-pass, frame-head-never, frame-head-narrow}
+use Rattle.dpch.proofs.Heads.{head-two, frame-headed, frame-head-never, frame-head-narrow}
 use Rattle.dpdch.specs.Rule.{slotOf, dataIn, frameOf, frameDataIn}
 use Rattle.dpdch.specs.Outcome.{slotsVerdict, Carry}
 
@@ -77,12 +77,6 @@ module _ (slots format : ℕ) (input : List ℕ) (outLength : ℕ) where
         out-ok = eqb-true _ _ (p .right-ok 1 (lit< tt));
         digits = each-done 0 4 _ _ (lit< tt) (c .rest);
       }
-
-  pub taken-pass : Taken slots format input outLength → slotsVerdict slots format input outLength ≡ done
-  unfolding slotsVerdict
-  taken-pass t =
-      or-else-pass (frame-head-pass 6 format _ (t .format-ok) (eq-eqb _ _ (t .long), (eq-eqb _ _ (t .out-ok), tt)))
-      (each-pass 0 4 _ _ (t .digits))
 
   pub slots-narrow : slots ≤ 15 → Narrow (slotsVerdict slots format input outLength)
   unfolding slotsVerdict

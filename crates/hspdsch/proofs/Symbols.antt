@@ -19,7 +19,7 @@ use Rattle.run.proofs.Table.{tab-length, tab-at, table-test}
 use Rattle.whole.proofs.Laws.{neg-*ℤ}
 use Rattle.sttd.specs.Rule.{barDigit, digitValue}
 use Rattle.sttd.proofs.Bars.{bar-twice, bar-negates}
-use Rattle.sttd.proofs.Antenna2.{values-encoded, both-bars, twice-bars, zero-product}
+use Rattle.sttd.proofs.Antenna2.{values-encoded, both-bars, twice-bars, zero-product, encoded-sum}
 use Rattle.sttd.proofs.Blocks.{blockwise-part, blockwise-next, four-part}
 use Rattle.sttd.proofs.Laws.{block-at}
 use Rattle.hspdsch.specs.Rule.{Pick, plain, pick, picked, figure8A, eights, coded}
@@ -206,6 +206,10 @@ qpsk-laws d long =
     record {
       twice = twice-bars ℕ barDigit d (omega arith);
       orthogonal = λ k h. zero-product ℕ barDigit digitValue (both-bars .of-digits) d k (omega arith);
+      sums =
+          λ e n.
+          rw (values-encoded ℕ barDigit digitValue (both-bars .of-digits) d, values-encoded ℕ barDigit digitValue (both-bars .of-digits) e)
+          (encoded-sum (map digitValue d) (map digitValue e) (length-map d digitValue ∙ long ∙ sym (length-map e digitValue ∙ n)));
     }
 
 pub twice-signs : TwiceSigns

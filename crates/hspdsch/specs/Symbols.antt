@@ -8,9 +8,9 @@ use lib.IntN.{ℤ, pos, negℤ, _*ℤ_}
 use lib.ListN.{length, getD}
 use Rattle.run.specs.First.{Every, atMost}
 use Rattle.run.specs.Parts.{part}
-use Rattle.sttd.specs.Antenna2.{Cancel}
+use Rattle.sttd.specs.Antenna2.{Cancel, plus}
 use Rattle.sttd.specs.Blocks.{blockwise}
-use Rattle.sttd.specs.Rule.{barDigit, digitValue}
+use Rattle.sttd.specs.Rule.{sttd, barDigit, digitValue}
 use Rattle.hspdsch.specs.Rule.{Pick, plain, bar, picked, figure8A, secondOf}
 
 -- a part of a 16QAM symbol: the sign, +1 for 0 and -1 for 1, times the size, 1 for 0 and 3 for 1 (TS 25.213: i1 and q1 are the signs, i2 and q2 the sizes)
@@ -55,10 +55,13 @@ abbrev pub SubframeCodesFours : Type 0
 SubframeCodesFours =
     (d : List ℕ) → length d ≡ 960 → (k : ℕ) → k < 240 → CodedFour (map digitValue (part k 4 d)) (map digitValue (part k 4 (secondOf 0 d)))
 
--- the laws of docs/STTD.md of format 0: encoding twice puts a bar on every digit, and the two streams are orthogonal over each block
+-- the laws of docs/STTD.md of format 0: encoding twice puts a bar on every digit, the two streams are orthogonal over each block, and what antenna 2 would send of a sum of two data runs, by their
+-- values, is the sum of what it sends of each
 pub record Qpsk (d : List ℕ) : Type 0 where
   pub twice : secondOf 0 (secondOf 0 d) ≡ map barDigit d
   pub orthogonal : (k : ℕ) → k < 240 → Cancel (map digitValue d) (map digitValue (secondOf 0 d)) (2 * k) 2
+  pub sums : (e : List ℕ) → length e ≡ 960
+      → sttd negℤ (plus (map digitValue d) (map digitValue e)) ≡ plus (map digitValue (secondOf 0 d)) (map digitValue (secondOf 0 e))
 
 abbrev pub QpskLaws : Type 0
 QpskLaws = (d : List ℕ) → length d ≡ 960 → Qpsk d

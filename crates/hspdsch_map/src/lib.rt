@@ -24,7 +24,7 @@ pub fn map(format: usize, data: &[u8], antenna1: &mut [u8], antenna2: &mut [u8])
     if verdict.number != 0 {
         return verdict;
     }
-    hspdsch::encode(format, data, antenna2);
+    hspdsch_encode::encode(format, data, antenna2);
     write::copy(antenna1, data);
     verdict
 }

@@ -31,8 +31,8 @@ fn stretch_differs(format: usize, antenna1: &[u8], antenna2: &[u8]) -> usize
     ensures { λ r. ⌜ r ≡ firstBad (agree (coded flip format (now (antenna1 .entry))) (now (antenna2 .entry))) 64 ⌝ }
 {
     let mut given = [0u8; 64];
-    hspdsch::encode(format, antenna1, &mut given);
-    scan::first_diff(&given, antenna2)
+    hspdsch_encode::encode(format, antenna1, &mut given);
+    scan_diff::first_diff(&given, antenna2)
 }
 
 // Where antenna 2 first differs from what antenna 1 gives, stretch after stretch.

@@ -11,18 +11,18 @@ use lib.ListN.{length, getD, take, drop}
 use lib.Seq.{getD-take, length-take-le}
 use Rattle.run.specs.declared.Verdict.{Verdict}
 use Rattle.run.specs.Verdicts.{orElse, leaves}
-use Rattle.run.proofs.Chain.{five-done, or-else-done, or-else-next, unless-pass, leaves-done, leaves-refused, leaves-small, number-0}
+use Rattle.run.proofs.Chain.{five-done, or-else-done, or-else-next, unless-pass, leaves-done, leaves-refused, number-0}
 use Rattle.lines.specs.declared.Told.{Told}
 use Rattle.kinds.specs.Rule.{isKind, secondVerdict}
 use Rattle.lines.specs.Outcome.{room, isWhole, lineVerdict, Record}
-use Rattle.kinds.proofs.ByKind.{size-some, size-small}
+use Rattle.kinds.proofs.ByKind.{size-some}
 use Rattle.lines.proofs.Checks.{then-refused, then-next}
 use Rattle.lines.proofs.Records.{prints-refused, is-whole}
 use Rattle.job.specs.declared.Opened.{Opened}
 use Rattle.job.specs.declared.Ran.{Ran}
 use Rattle.job.specs.Rule.{versionIn, widthOf, sizeIn, recordIn}
 use Rattle.job.specs.Outcome.{present, headVerdict, kindHead, recordHead, recordVerdict, openVerdict, runVerdict, Open, Run}
-use Rattle.job.proofs.Checks.{check-done, reach-done, width-small}
+use Rattle.job.proofs.Checks.{check-done, reach-done}
 
 pub record Headed (window : List ℕ) : Type 0 where
   pub kind-ok : isKind (getD window 0 0) ≡ true
@@ -101,18 +101,6 @@ run-fits {limit} {offset} {window} {line} {answer} r = pick (eqb (runVerdict lim
         let inside = headed limit offset window (or-else-done _ _ (or-else-done _ _ h .rest) .first) .inside in
         omega arith
     pick false e = let size = r .size-is ∙ leaves-refused _ _ _ (eqb-false _ _ e) in omega arith
-
-pub run-small : {limit offset : ℕ} {window line : List ℕ} {answer : Ran} {line′ : List ℕ} → getD window 1 0 < 256 → Run limit offset window line answer line′ → answer .size ≤ 1284
-run-small {limit} {offset} {window} {line} {answer} second r =
-    let small : sizeIn window < 1285 = let s = size-small (getD window 0 0) (getD window 1 0) second in omega arith in
-    let fits : answer .size < 1285 = rw (r .size-is) (leaves-small (runVerdict limit offset window (length line)) (sizeIn window) 1285 (λ h. small) (omega arith)) in
-    omega arith
-
-pub open-small : {window line : List ℕ} {answer : Opened} {line′ : List ℕ} → Open window line answer line′ → answer .next ≤ 7
-open-small {window} {line} {answer} r =
-    let small = width-small (versionIn window) in
-    let fits : answer .next < 8 = rw (r .next-is) (leaves-small (openVerdict window (length line)) (5 + widthOf (versionIn window)) 8 (λ h. omega arith) (omega arith)) in
-    omega arith
 
 pub open-fits : {window line : List ℕ} {answer : Opened} {line′ : List ℕ} → Open window line answer line′ → answer .next ≤ length window
 unfolding openVerdict headVerdict present

@@ -11,7 +11,7 @@ use lib.ListN.{length, getD, drop, length-append, List·getD-append}
 use lib.Seq.{take-append-le}
 use Rattle.run.specs.declared.Verdict.{Verdict}
 use Rattle.run.specs.Verdicts.{orElse}
-use Rattle.run.proofs.Chain.{or-else-refused, or-else-done}
+use Rattle.run.proofs.Chain.{or-else-refused}
 use Rattle.kinds.specs.Rule.{isKind, secondVerdict}
 use Rattle.kinds.proofs.ByKind.{size-some, size-small}
 use Rattle.lines.specs.Outcome.{mapperVerdict}
@@ -20,7 +20,7 @@ use Rattle.job.specs.declared.fault.Fault.the-variants.{OverLong, WrongM
 use Rattle.job.specs.Faults.{check}
 use Rattle.job.specs.Rule.{versionIn, isVersion, widthOf, limitOf, countIn, sizeIn, recordIn}
 use Rattle.job.specs.Outcome.{within, reach, present, byteIs, lengthVerdict, headVerdict, sizeFrom, kindHead, recordHead, recordVerdict, endVerdict}
-use Rattle.job.specs.Windows.{headAsks, recordAsks, Window, SameHead, First, Same, WindowOpens, WindowRuns, WindowEnds, RecordAsksFew}
+use Rattle.job.specs.Windows.{headAsks, recordAsks, Window, SameHead, Same, WindowOpens, WindowRuns, WindowEnds, RecordAsksFew}
 use Rattle.job.proofs.Checks.{check-done, reach-done, width-small}
 use Rattle.job.proofs.Headed.{headed}
 

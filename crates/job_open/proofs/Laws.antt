@@ -8,7 +8,7 @@ use native.Mathlib.Nat.{zero-add}
 use native.Mathlib.Omega.{arith}
 use borrow.Author.Tests.{eq-eqb, ne-eqb}
 use lib.ListN.{getD}
-use Rattle.job.specs.Rule.{isVersion, widthOf, limitOf, countIn}
+use Rattle.job.specs.Rule.{isVersion, widthOf, countIn}
 
 pub version-two : (version : ℕ) → 1 ≤ version → version ≤ 2 → isVersion version ≡ true
 unfolding isVersion

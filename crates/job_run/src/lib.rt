@@ -18,7 +18,7 @@ fn run_head(window: &[u8], offset: u32, limit: u32, line_length: usize) -> Verdi
     ensures { λ r. ⌜ r ≡ orElse (room 1 «line_length») (recordHead limit offset (now (window .entry))) ⌝ }
 {
     let room = unless(LINE <= line_length, refusal::LENGTH, 1);
-    or_else(room, job::record_head(window, offset, limit))
+    or_else(room, job_check::record_head(window, offset, limit))
 }
 
 // What is answered for a record whose bytes are all there, once its line is told or refused.

@@ -9,7 +9,6 @@ use lib.ListN.{getD}
 use Rattle.run.specs.declared.Verdict.{Verdict}
 use Rattle.run.specs.Verdicts.{Narrow}
 use Rattle.run.proofs.Chain.{or-else-narrow, unless-narrow}
-use Rattle.dpch.specs.Heads.{frameHead}
 use Rattle.dpch.specs.Compressed.{formatIn}
 use Rattle.dpch.proofs.Heads.{frame-head-narrow}
 use Rattle.dpch.specs.Formats.{formatOf}
@@ -22,7 +21,6 @@ use Rattle.slot.specs.Outcome as slot
 use Rattle.antenna.specs.Outcome as antenna
 use Rattle.frame.specs.Outcome as frame
 use Rattle.compressed.specs.Outcome as compressed
-use Rattle.compressed.specs.Outcome.{gapHead}
 use Rattle.compressed.specs.Rule.{transmitted}
 use Rattle.compressed.proofs.Accept.{gap-head-narrow}
 use Rattle.compressed.proofs.Gap.{small-product}
@@ -32,9 +30,8 @@ use Rattle.dpcch.specs.Outcome as dpcch
 use Rattle.dpcch.proofs.Laws.{sizes}
 use Rattle.hspdsch.specs.Rule.{slotSizes, size}
 use Rattle.hspdsch.specs.Outcome as hspdsch
-use Rattle.lengths.specs.declared.Length.{Length}
 use Rattle.lengths.specs.Rule.{slotLengths, frameLengths, compressedLengths, dpdchLengths, dpcchLengths, dpcchFrameLengths, hspdschLengths}
-use Rattle.lengths.specs.Outcome.{toldVerdict, Told}
+use Rattle.lengths.specs.Outcome.{toldVerdict}
 use Rattle.lengths.specs.Exact.{asTold, Asked, Once, Packs, Short}
 
 -- each mapper's check of lengths has the list of the rule written out

@@ -1,4 +1,4 @@
--- docs/RULES.md, 'Job file and program': what each call answers and leaves in the lent line, for all inputs. A lent line has room for the longest line there is.
+-- docs/RULES.md, 'Job file and program': what each call answers and leaves in the lent line, for all inputs. A lent line without room for the longest line is refused with 3.
 -- Assumes nothing.
 use Prim.Native.Nat.{ℕ}
 use mathlib.Core.Path.{_≡_}

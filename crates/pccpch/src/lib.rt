@@ -37,7 +37,7 @@ fn code(digits: &[u8], out: &mut [u8])
     requires { ⌜ (length (now digits) ≡ 270) × (length (now out) ≡ 270) ⌝ }
     ensures { λ _. ⌜ now (out .exit) ≡ coded (now (digits .entry)) ⌝ }
 {
-    sttd::encode(&digits[0..268], &mut out[0..268]);
+    sttd_digits::encode(&digits[0..268], &mut out[0..268]);
     out[268] = digits[268];
     out[269] = digits[269];
 }

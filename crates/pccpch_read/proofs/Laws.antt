@@ -23,7 +23,7 @@ use Rattle.pccpch.specs.Rule.{place, frameOf, secondOf, dataIn}
 use Rattle.pccpch.specs.Outcome.{rightKind, readVerdict, Read}
 use Rattle.pccpch.proofs.Exact.{mapped-accepted}
 use Rattle.pccpch.proofs.Laws.{digitOf, digit-within, place-digit, split, frame-length, frame-silent, frame-digit, second-length, data-length, data-at}
-use Rattle.scan.proofs.Laws.{found-same}
+use Rattle.scan_diff.proofs.Laws.{found-same}
 use Rattle.pccpch_read.specs.Method.{beginsAt}
 
 -- of a digit: at most 1 is as much as not DTX

@@ -42,7 +42,7 @@ fn first_wrong_kind(antenna1: &[u8]) -> usize
     while slot < 15 {
         let start = 20 * slot;
         let first = start + 2;
-        let i = scan::first_other(&antenna1[start..first], DTX);
+        let i = scan_equal::first_other(&antenna1[start..first], DTX);
         if i < 2 {
             return start + i;
         }
@@ -77,7 +77,7 @@ fn first_difference(antenna1: &[u8], antenna2: &[u8]) -> usize
     let mut data = [0u8; 270];
     take_data(antenna1, &mut data);
     let implied = pccpch::second_of(data);
-    scan::first_diff(&implied, antenna2)
+    scan_diff::first_diff(&implied, antenna2)
 }
 
 fn read_body(antenna1: &[u8], antenna2: &[u8]) -> Verdict
@@ -138,7 +138,7 @@ fn is_given(antenna1: &[u8], antenna2: &[u8], digits: [u8; 270]) -> bool
     if !scan::all_at_most(&digits, 1, 270) {
         return false;
     }
-    300 <= scan::first_diff(&implied, antenna2)
+    300 <= scan_diff::first_diff(&implied, antenna2)
 }
 
 // The data of antenna 1, where it gives both frames.

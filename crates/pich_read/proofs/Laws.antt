@@ -1,7 +1,7 @@
 -- Laws of the reader: its scan of a frame, group by group and then the tail, and what is accepted at once: indicators found by halving.
 -- Assumes nothing.
 use mathlib.Core.Path.{_≡_, refl, sym, ap, _∙_, subst}
-use mathlib.Core.Bool.{Bool, true, false}
+use mathlib.Core.Bool.{Bool, true, false, not}
 use mathlib.Core.List.{List}
 use Prim.Native.Nat.{ℕ, _+_, _-_, _*_, _/_, _≤_, _<_, min}
 use native.Mathlib.Nat.{add-zero}
@@ -11,13 +11,14 @@ use lib.Dec.{eqb, ltb}
 use lib.ListN.{length, getD, set, take, drop, replicate, length-set, length-replicate, getD-replicate}
 use lib.Seq.{ext-getD, getD-set-same, getD-set-other}
 use Rattle.run.specs.Digits.{dtx}
-use Rattle.run.specs.First.{firstBad, Every, atMost, isAt, likeFirst, agree}
+use Rattle.run.specs.First.{firstBad, all, Every, atMost, isAt, likeFirst, agree}
 use Rattle.run.specs.Verdicts.{done}
 use Rattle.run.proofs.Chain.{or-else-pass, unless-pass, each-pass, leaves-done, number-0}
-use Rattle.run.proofs.First.{first-le, first-in-part, part-passes, first-in-last, none-first}
+use Rattle.run.proofs.First.{first-le, first-in-part, part-passes, first-in-last}
+use Rattle.run.proofs.Passing.{passed}
 use Rattle.run.proofs.Lent.{part-length, part-at}
-use Rattle.scan.proofs.Laws.{found-same}
-use Rattle.pich.specs.Rule.{isNp, width, frameOf, indicatorsIn}
+use Rattle.scan_diff.proofs.Laws.{found-same}
+use Rattle.pich.specs.Rule.{isNp, width, frameOf}
 use Rattle.pich.specs.Outcome.{mapVerdict, stands, readVerdict, Read}
 use Rattle.pich.specs.Exact.{Gives}
 use Rattle.pich.proofs.Laws.{groups, frame-length, digit-at, tail-at, taken}
@@ -146,10 +147,10 @@ module _ (np : ℕ) (frame found : List ℕ) (ok : isNp np ≡ true) (long : len
           ∙ sym (ap (λ (n : ℕ). getD frame n 0) (sym e) ∙ sym (part-at frame 288 12 (k - 288) 0 j) ∙ ap (λ (t : List ℕ). getD t (k - 288) 0) tail ∙ getD-replicate {A = ℕ} 12 (k - 288) 2 0 j)
 
   -- as the scans tell it
-  pub found-given : {i j : ℕ} → ((k : ℕ) → k < 288 → getD frame k 0 ≡ getD found (k / width np) 0) → i ≡ firstBad (atMost 1 found) (length found) → length found ≤ i
+  pub found-given : {good : Bool} {j : ℕ} → ((k : ℕ) → k < 288 → getD frame k 0 ≡ getD found (k / width np) 0) → good ≡ all (length found) (atMost 1 found) → not good ≡ false
       → j ≡ firstBad (agree (take 12 (drop 288 frame)) (replicate 12 dtx)) (min (length (take 12 (drop 288 frame))) (length (replicate 12 dtx))) → 12 ≤ j → Gives np found frame
   found-given fills e h d l =
-      given fills (none-first _ _ (rw e at h)) (found-same _ _ 12 _ (part-length frame 288 12 (omega arith)) (length-replicate {A = ℕ} 12 2) d l)
+      given fills (passed _ e h) (found-same _ _ 12 _ (part-length frame 288 12 (omega arith)) (length-replicate {A = ℕ} 12 2) d l)
 
 -- a frame that is given is read at once, and its indicators are those that give it
 pub given-read : {np : ℕ} {frame indicators after : List ℕ} → isNp np ≡ true → length frame ≡ 300 → length indicators ≡ np → Gives np after frame

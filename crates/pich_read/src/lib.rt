@@ -12,7 +12,7 @@ ghost use mathlib.Core.Path.{_≡_};
 ghost use mathlib.Core.Bool.{true, false};
 ghost use Prim.Native.Nat.{ℕ, _-_, _*_, _/_, _%_, _<_};
 ghost use lib.ListN.{length, getD};
-ghost use Rattle.run.specs.First.{firstBad};
+ghost use Rattle.run.specs.First.{firstBad, all, atMost};
 ghost use Rattle.pich.specs.Rule.{isNp, width, indicatorsIn};
 ghost use Rattle.pich.specs.Outcome.{stands, readHead, readVerdict, Read};
 ghost use Rattle.pich.specs.Exact.{Gives};
@@ -27,13 +27,13 @@ fn first_misfit(np: usize, frame: &[u8]) -> usize
     while q < np {
         let start = first_digit(np, Indicator(q));
         let end = start + width;
-        let i = scan::first_unlike(&frame[start..end]);
+        let i = scan_equal::first_unlike(&frame[start..end]);
         if i < width {
             return start + i;
         }
         q += 1;
     }
-    288 + scan::first_other(&frame[288..300], DTX)
+    288 + scan_equal::first_other(&frame[288..300], DTX)
 }
 
 fn read_head(np: usize, frame: &[u8], indicators_length: usize) -> Verdict
@@ -146,16 +146,26 @@ fn find_18(frame: &[u8], found: &mut [u8]) -> bool
     false
 }
 
+// Whether what was found is 0 and 1. A loop of any length goes 32 digits at a time and then four: 144, which leave some over, are worth a look whose length is a number.
+fn are_bits(found: &[u8]) -> bool
+    ensures { λ r. ⌜ r ≡ all (length (now (found .entry))) (atMost 1 (now (found .entry))) ⌝ }
+{
+    match found.len() {
+        144 => scan::all_at_most(found, 1, 144),
+        _ => found.len() <= scan::first_above(found, 1),
+    }
+}
+
 // Whether the indicators that were found are 0 and 1, and the tail is DTX. Then they give the frame, and are kept.
 fn keep(np: usize, frame: &[u8], found: &[u8], indicators: &mut [u8]) -> bool
     requires { ⌜ (isNp np ≡ true) × (length (now frame) ≡ 300) × (length (now found) ≡ np) × (length (now indicators) ≡ np) × ((k : ℕ) → k < 288 → getD (now frame) k 0 ≡ getD (now found) (k / width np) 0) ⌝ }
     ensures { λ r. ⌜ (r ≡ true → Gives np (now (indicators .exit)) (now (frame .entry))) × (r ≡ false → now (indicators .exit) ≡ now (indicators .entry)) ⌝ }
 {
-    if scan::first_above(found, 1) < found.len() {
+    if !are_bits(found) {
         return false;
     }
     let tail = [DTX; 12];
-    if scan::first_diff(&frame[288..300], &tail) < 12 {
+    if scan_diff::first_diff(&frame[288..300], &tail) < 12 {
         return false;
     }
     write::copy(indicators, found);

@@ -138,9 +138,6 @@ module _ (s : Shape) (p : Plan) where
     pub frame-slot : (k : ℕ) → k < 15 → part k (s .slot-size) (frameOf a b cs) ≡ slotAt a b cs k
     frame-slot k h = part-joined 15 (s .slot-size) (slotAt a b cs) slot-long k h
 
-    pub frame-silent : (k : ℕ) → k < 15 → p .sent k ≡ false → part k (s .slot-size) (frameOf a b cs) ≡ replicate (s .slot-size) dtx
-    frame-silent k h e = frame-slot k h ∙ slot-silent k e
-
   module _ (xs : List ℕ) (long : length xs ≡ 15 * s .slot-size) where
     part-long : (i : ℕ) → i < p .count → length (part (p .number i) (s .slot-size) xs) ≡ s .slot-size
     part-long i h = part-length (p .number i) 15 (s .slot-size) xs (p .number-below i h) long
@@ -180,10 +177,6 @@ module _ (s : Shape) (p : Plan) where
         → Front (frameOf a b cs) out (putMid (k * w) (k * w + w - k * w) x y) ((k + 1) * w)
     slot-written i n m q t sent turn e =
         as-slot (e ∙ rw (lent-is i n a, lent-is i m b, q, t, turn) (sym (slot-sent a b cs a-ok b-ok k sent)))
-
-    -- .. or silent
-    pub silence-written : p .sent k ≡ false → y ≡ replicate w dtx → Front (frameOf a b cs) out (putMid (k * w) (k * w + w - k * w) x y) ((k + 1) * w)
-    silence-written silent e = as-slot (e ∙ ap (λ (j : ℕ). replicate j dtx) r ∙ sym (slot-silent a b cs a-ok b-ok k silent))
 
   -- .. or what it carries is taken
   module _ (xs : List ℕ) (long : length xs ≡ 15 * s .slot-size) (i k w : ℕ) (h : i < p .count) (number : k ≡ p .number i) (r : w ≡ s .slot-size) where

@@ -39,18 +39,6 @@ module _ {A : Type 0} where
       let n : j < w = rw p at m in
       getD-take w (drop a s) j z n ∙ getD-drop a s j z ∙ same j n ∙ sym (getD-take w (drop b t) j z n ∙ getD-drop b t j z))
 
-  -- a stretch that already is as t has it
-  pub front-same : {t d₀ d : List A} {a : ℕ} (w : ℕ) → Front t d₀ d a → a + w ≤ length d₀ → take w (drop a t) ≡ take w (drop a d₀) → Front t d₀ d (a + w)
-  front-same {t} {d₀} {d} {a} w f h e =
-      record {
-        sized = f .sized;
-        within = h;
-        is =
-            f .is
-            ∙ ap (λ (l : List A). take a t ++ l) (sym (take-append-drop w (drop a d₀)))
-            ∙ rw (← e, drop-drop w a d₀, ← append-assoc, ← take-add a w t);
-      }
-
   -- the part from a on is lent, and src, as t has it there, is copied into it
   pub front-copied : {t d₀ d ys : List A} (src : List A) (a w : ℕ) → Front t d₀ d a → a + w ≤ length d₀ → length src ≡ w → src ≡ take w (drop a t)
       → ys ≡ over src (midOf a (a + w - a) d) → Front t d₀ (putMid a (a + w - a) d ys) (a + w)

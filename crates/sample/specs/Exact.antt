@@ -27,7 +27,7 @@ use Rattle.sample.specs.Outcome.{takeVerdict, Take}
 abbrev pub ValueBetween : Type 0
 ValueBetween = (v : ℤ) → (isValue v ≡ true) ↔ (natAbs v ≤ 16)
 
--- a level is in range: 1/1024 to 1024, both ends included, for the number m * up e / down e. NaN, both infinities, both zeros and what is negative do not
+-- a level is in range: 1/1024 to 1024, both ends included, for the number m * up e / down e. NaN, both infinities, both zeros and what is negative are not
 abbrev pub Level : Float → Type 0
 Level nan = ⊥
 Level (inf s) = ⊥

@@ -1,3 +1,4 @@
 pub mod Signs
+pub mod Table
 pub mod Exact
 pub mod Folding

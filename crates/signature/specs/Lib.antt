@@ -1,4 +1,5 @@
 pub mod Rule
+pub mod Table
 pub mod Outcome
 pub mod Exact
 pub mod Folding

@@ -6,6 +6,6 @@ use lib.Dec.{ltb}
 use lib.IntN.{ℤ, pos}
 use Rattle.signature.specs.Rule.{sign}
 
--- sign: table 20 has rows 0 to 15 and columns 0 to 31; outside it the answer is 0
+-- sign: table 20 of the early draft has rows 0 to 15 and columns 0 to 31; outside it the answer is 0
 unfoldable pub signAt : ℕ → ℕ → ℤ
 signAt s j = cond (ltb s 16 && ltb j 32) (sign s j) (pos 0)

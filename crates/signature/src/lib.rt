@@ -4,7 +4,7 @@ ghost use Prim.Native.Nat.{_<_};
 ghost use Rattle.signature.specs.Rule.{isPlus};
 ghost use Rattle.signature.specs.Outcome.{signAt};
 
-// Table 20: row s is the signature b(s, 0) .. b(s, 31), + for +1 and - for -1.
+// Table 20 of the early draft: row s is the signature b(s, 0) .. b(s, 31), + for +1 and - for -1.
 const SIGNATURES: [[u8; 32]; 16] = [
     *b"++++++++++++++++++++++++++++++++",
     *b"++--++--++--++--++--++--++--++--",

@@ -20,7 +20,7 @@ use Rattle.dpch.proofs.Heads.{slot-head-narrow}
 use Rattle.slot.specs.Rule.{dataSize, fieldsOf, slotOf, tfciIn, dataIn, commandIn}
 use Rattle.slot.specs.Outcome.{mapHead, fieldsVerdict, mapVerdict, readHead, readVerdict}
 use Rattle.slot.specs.Ready.{Sound, Row, Whole}
-use Rattle.slot.specs.Exact.{Gives, Fields, ReadExact, SlotCuts, SlotPlaced, MapOnce, ReadOnce, Packs}
+use Rattle.slot.specs.Exact.{Gives, Fields, ReadExact, SlotCuts, SlotPlaced, MapOnce, ReadOnce, PartsOnce, Packs}
 use Rattle.slot.proofs.Laws.{sound-format, normal-row, start-data1, start-tpc, start-tfci, start-data2, start-pilot, fields-widths, slot-length, field-long, data-length, data-small, tfci-small}
 use Rattle.slot.proofs.Accept.{map-head-pass, read-head-pass, fields-pass, DigitsOk, digits-pass, Mapped, mapped, accepted, map-headed, read-headed}
 use Rattle.slot.proofs.Rows as rows
@@ -145,6 +145,20 @@ read-once format slot xs d tfci a b x y s t p r = (
   one-outcome (p .data-is) (r .data-is),
   one-outcome (p .tfci-is) (r .tfci-is),
 )
+
+pub parts-once : PartsOnce
+parts-once =
+    record {
+      put = λ format slot tpc d tfci out a b x y p r. (one-outcome (p .verdict-is) (r .verdict-is), one-outcome (p .out-is) (r .out-is));
+      take = λ format slot xs d tfci a b x y s t p r. (
+        λ i. record { verdict = one-outcome (p .verdict-is) (r .verdict-is) i; tpc = one-outcome (p .command-is) (r .command-is) i },
+        one-outcome (p .data-is) (r .data-is),
+        one-outcome (p .tfci-is) (r .tfci-is),
+      );
+      put-row = λ f slot tpc d tfci out x y p r. one-outcome (p .out-is) (r .out-is);
+      take-row = λ f xs d tfci a b x y s t p r. (one-outcome (p .command-is) (r .command-is), one-outcome (p .data-is) (r .data-is), one-outcome (p .tfci-is) (r .tfci-is));
+      sizes = λ f a b p r i. record { «data» = one-outcome (p .data-is) (r .data-is) i; tfci = one-outcome (p .tfci-is) (r .tfci-is) i; slot = one-outcome (p .slot-is) (r .slot-is) i };
+    }
 
 -- the checks of fields of small lengths, at small bases
 pub fields-narrow : (tpc : ℕ) (d tfci : List ℕ) (tpcPlace tfciBase dataBase : ℕ)

@@ -9,10 +9,13 @@ use Rattle.run.specs.declared.Verdict.{Verdict}
 use Rattle.run.specs.Fields.{cut, joined}
 use Rattle.run.specs.Verdicts.{done, Narrow}
 use Rattle.dpch.specs.declared.Command.{Command}
+use Rattle.dpch.specs.declared.Format.{Format}
 use Rattle.dpch.specs.Formats.{formatOf, widths}
 use Rattle.dpch.specs.Pilots.{pilotOf}
 use Rattle.slot.specs.Rule.{dataSize, fieldsOf, slotOf, tfciIn, dataIn, commandIn}
-use Rattle.slot.specs.Outcome.{mapVerdict, Map, readVerdict, Read}
+use Rattle.slot.specs.Outcome.{mapVerdict, Map, readVerdict, Read, Put, Take, PutRow, TakeRow}
+use Rattle.slot.specs.declared.Sizes.{Sizes}
+use Rattle.slot.specs.Ready.{SizesOf}
 
 -- a command, data and TFCI give a slot: map takes them, and this is what it writes
 pub record Gives (format slot tpc : ℕ) (d tfci xs : List ℕ) : Type 0 where
@@ -70,6 +73,15 @@ abbrev pub ReadOnce : Type 0
 ReadOnce =
     (format slot : ℕ) (xs d tfci : List ℕ) (a b : Command) (x y s t : List ℕ) → Read format slot xs d tfci a x s → Read format slot xs d tfci b y t
     → (a ≡ b) × (x ≡ y) × (s ≡ t)
+
+-- .. and so does that of each part
+pub record PartsOnce : Type 0 where
+  pub put : (format slot tpc : ℕ) (d tfci out : List ℕ) (a b : Verdict) (x y : List ℕ) → Put format slot tpc d tfci out a x → Put format slot tpc d tfci out b y → (a ≡ b) × (x ≡ y)
+  pub take : (format slot : ℕ) (xs d tfci : List ℕ) (a b : Command) (x y s t : List ℕ) → Take format slot xs d tfci a x s → Take format slot xs d tfci b y t
+      → (a ≡ b) × (x ≡ y) × (s ≡ t)
+  pub put-row : (f : Format) (slot tpc : ℕ) (d tfci out x y : List ℕ) → PutRow f slot tpc d tfci out x → PutRow f slot tpc d tfci out y → x ≡ y
+  pub take-row : (f : Format) (xs d tfci : List ℕ) (a b : ℕ) (x y s t : List ℕ) → TakeRow f xs d tfci a x s → TakeRow f xs d tfci b y t → (a ≡ b) × (x ≡ y) × (s ≡ t)
+  pub sizes : (f : Format) (a b : Sizes) → SizesOf f a → SizesOf f b → a ≡ b
 
 -- number, place and command fit the fields of a packed answer
 pub record Packs : Type 0 where

@@ -1,11 +1,9 @@
-// One slot of the downlink DPCH: its rule, promises and theorems, and the checks of numbers and lengths: docs/RULES.md, 'DPCH slot'; TS 25.211, 5.3.2.
+// One slot of the downlink DPCH: its rule, promises and theorems, and the lengths of its runs: docs/RULES.md, 'DPCH slot'; TS 25.211, 5.3.2.
 use dpch::Format;
-use dpch::slot_head;
-use run::Verdict;
 ghost use mathlib.Core.Path.{_≡_};
 ghost use Rattle.dpch.specs.Formats.{formatOf};
 ghost use Rattle.dpch.specs.Compressed.{formatIn};
-ghost use Rattle.slot.specs.Outcome.{mapHead, readHead, sizesAre};
+ghost use Rattle.slot.specs.Outcome.{sizesAre};
 ghost use Rattle.slot.specs.Ready.{Sound, SizesOf};
 
 // The lengths of one slot's runs.
@@ -38,48 +36,6 @@ pub fn row_sizes(kind: usize, format: usize) -> Sizes
     ensures { λ r. ⌜ SizesOf (formatIn kind format) r ⌝ }
 {
     sizes_in(dpch_rows::format_in(kind, format))
-}
-
-// The checks of numbers and lengths before a slot is mapped.
-pub fn map_head(
-    format: usize,
-    slot: usize,
-    data_length: usize,
-    tfci_length: usize,
-    out_length: usize,
-) -> Verdict
-    ensures { λ r. ⌜ r ≡ mapHead format slot «data_length» «tfci_length» «out_length» ⌝ }
-{
-    let s = sizes_of(format);
-    slot_head(
-        16,
-        format,
-        slot,
-        data_length == s.data,
-        tfci_length == s.tfci,
-        out_length == s.slot,
-    )
-}
-
-// The checks of numbers and lengths before a slot is read.
-pub fn read_head(
-    format: usize,
-    slot: usize,
-    slot_length: usize,
-    data_length: usize,
-    tfci_length: usize,
-) -> Verdict
-    ensures { λ r. ⌜ r ≡ readHead format slot «slot_length» «data_length» «tfci_length» ⌝ }
-{
-    let s = sizes_of(format);
-    slot_head(
-        16,
-        format,
-        slot,
-        slot_length == s.slot,
-        data_length == s.data,
-        tfci_length == s.tfci,
-    )
 }
 
 // Whether a row is one of a compressed format, and data, TFCI and slot have its lengths: all that writing a slot of it or taking its fields stands on. Nothing is added:

@@ -22,11 +22,11 @@ ghost use Rattle.slot.specs.Ready.{Whole};
 fn plain_differs(s: &[u8], slot: usize) -> usize
     ensures { λ r. ⌜ r ≡ firstBad (agree (now (s .entry)) (pilotSource (length (now (s .entry))) slot)) (min (length (now (s .entry))) (length (pilotSource (length (now (s .entry))) slot))) ⌝ }
 {
-    let row = dpch::pilot_row(0, slot);
+    let row = dpch_pilot::pilot_row(0, slot);
     if s.len() == 2 {
-        scan::first_diff(s, &row[2..4])
+        scan_diff::first_diff(s, &row[2..4])
     } else {
-        scan::first_diff(s, &row)
+        scan_diff::first_diff(s, &row)
     }
 }
 
@@ -36,9 +36,9 @@ fn doubled_differs(s: &[u8], slot: usize) -> usize
 {
     let row = dpch_rows::doubled_row(slot);
     if s.len() == 4 {
-        scan::first_diff(s, &row[4..8])
+        scan_diff::first_diff(s, &row[4..8])
     } else {
-        scan::first_diff(s, &row)
+        scan_diff::first_diff(s, &row)
     }
 }
 
@@ -95,7 +95,7 @@ pub(crate) fn check(f: Format, slot: usize, xs: &[u8], base: u32) -> Verdict
     );
     let tpc = &xs[a..b];
     let commands = or_else(
-        placed(tpc, scan::first_unlike(tpc), refusal::TPC, base, a),
+        placed(tpc, scan_equal::first_unlike(tpc), refusal::TPC, base, a),
         kinds,
     );
     or_else(

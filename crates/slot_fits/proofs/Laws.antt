@@ -1,7 +1,7 @@
 -- What a look at a field of constant width says of the field's check, and what the looks together say of the verdict.
 -- Assumes nothing.
 use mathlib.Core.Path.{_≡_, refl, sym, ap, _∙_}
-use mathlib.Core.Bool.{Bool, true, false, cond, not, _&&_, Bool·beq, true≢false}
+use mathlib.Core.Bool.{Bool, true, false, cond, not, _&&_, true≢false}
 use mathlib.Core.List.{List}
 use Prim.Native.Nat.{ℕ, _+_, _-_, _<_}
 use native.Mathlib.Nat.{not-suc-le-zero}
@@ -9,9 +9,8 @@ use native.Mathlib.Omega.{arith}
 use borrow.Author.Tests.{eqb-true, eq-eqb, ne-eqb, le-leb, lt-leb}
 use lib.Dec.{eqb, leb, lit<}
 use lib.ListN.{length, getD, take, drop}
-use Rattle.run.specs.declared.Verdict.{Verdict}
 use Rattle.run.specs.First.{firstBad, all, isAt, likeFirst, agree}
-use Rattle.run.specs.Verdicts.{done, orElse, unless, each}
+use Rattle.run.specs.Verdicts.{done, each}
 use Rattle.run.specs.Fields.{joined, field, start}
 use Rattle.run.proofs.First.{first-is, first-same}
 use Rattle.run.proofs.Chain.{or-else-done, unless-done, or-else-pass, unless-pass, each-fits}
@@ -21,16 +20,11 @@ use Rattle.dpch.specs.Formats.{kindB, widths}
 use Rattle.dpch.specs.Pilots.{pilotRow, symbolsOf, symbolsFor, pilotOf}
 use Rattle.dpch.specs.Compressed.{formatIn, pairsTwice, pilotFor}
 use Rattle.dpch.proofs.Exact.{at-rows}
-use Rattle.slot.specs.Rule.{tfciStands}
 use Rattle.slot.specs.Outcome.{partVerdict}
 use Rattle.slot.specs.Ready.{Whole}
 use Rattle.slot.proofs.Laws.{field-long}
 use Rattle.slot.proofs.Accept.{digits-ok, digits-pass}
-use Rattle.slot_fits.specs.Method.{kindAt, PilotWidth}
-
--- a test of no place holds
-pub none-to-ask : (n : ℕ) (ok : ℕ → Bool) → n ≡ 0 → true ≡ all n ok
-none-to-ask n ok e = sym (le-leb n _ (omega arith))
+use Rattle.slot_fits.specs.Method.{PilotWidth}
 
 -- a digit that is a bit v is not DTX
 bit : (d v : ℕ) → (v ≡ 2 → ⊥) → (b : Bool) → eqb d v ≡ b → b ≡ (not (eqb d 2) && b)
@@ -52,20 +46,6 @@ module _ (s : List ℕ) where
   command-silent some e =
       let first = first-is (likeFirst s) (length s) 0 (omega arith) (λ k h. absurd (not-suc-le-zero h)) (λ h. rw (eq-eqb (getD s 0 0) 2 e)) in
       sym (lt-leb (length s) (firstBad (likeFirst s) (length s)) (omega arith))
-
--- DTX or not, as asked
-pub kind-silent : (b : Bool) → b ≡ Bool·beq true b
-kind-silent true = refl
-kind-silent false = refl
-
-pub kind-bit : (b : Bool) → not b ≡ Bool·beq false b
-kind-bit true = refl
-kind-bit false = refl
-
--- a TFCI field of n digits, each of the first one's kind
-pub tfci-told : (s : List ℕ) (n : ℕ) {r : Bool} → length s ≡ n → r ≡ all n (kindAt (eqb (getD s 0 0) 2) s) → r ≡ all (length s) (tfciStands s)
-unfolding tfciStands
-tfci-told s n e told = told ∙ ap (λ (m : ℕ). all m (kindAt (eqb (getD s 0 0) 2) s)) (sym e)
 
 -- a pilot field of n digits, compared with the beginning of a run that begins with the pilot
 pub pilot-told : (pilot : ℕ → List ℕ) (s source : List ℕ) (n : ℕ) {r : Bool} → length s ≡ n → firstBad (agree s source) n ≡ firstBad (agree s (pilot n)) n

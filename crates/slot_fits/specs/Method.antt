@@ -2,16 +2,7 @@
 -- Assumes nothing.
 use Prim.Native.Nat.{ℕ}
 use mathlib.Core.Path.{_≡_}
-use mathlib.Core.Bool.{Bool, Bool·beq}
-use mathlib.Core.List.{List}
-use lib.ListN.{getD}
-use lib.Dec.{eqb}
-use Rattle.run.specs.Digits.{dtx}
 use Rattle.dpch.specs.Formats.{kindB}
-
--- the digit at place k is DTX or not, as asked
-abbrev pub kindAt : Bool → List ℕ → ℕ → Bool
-kindAt silent s k = Bool·beq (eqb (getD s k 0) dtx) silent
 
 -- a width that a format's pilot can have: 2, 4, 8 or 16, or 0 where there is no format; in B 4, 8, 16 or 32
 pub record PilotWidth (kind n : ℕ) : Type 0 where

@@ -4,18 +4,17 @@ use dpch::Format;
 use dpch::KIND_B;
 use run::DTX;
 ghost use mathlib.Core.Path.{_≡_};
-ghost use mathlib.Core.Bool.{_&&_, Bool·beq};
+ghost use mathlib.Core.Bool.{_&&_};
 ghost use Prim.Native.Nat.{_≤_};
 ghost use lib.Dec.{eqb};
 ghost use lib.ListN.{length};
-ghost use Rattle.run.specs.First.{all, isAt, likeFirst, agree};
+ghost use Rattle.run.specs.First.{all, atMost, isAt, likeFirst, agree};
 ghost use Rattle.dpch.specs.Formats.{normal, kindB, formatOf};
 ghost use Rattle.dpch.specs.Pilots.{pilotOf};
 ghost use Rattle.dpch.specs.Compressed.{formatIn, pilotFor};
-ghost use Rattle.slot.specs.Rule.{tfciStands};
 ghost use Rattle.slot.specs.Outcome.{digitsVerdict, partVerdict};
 ghost use Rattle.slot.specs.Ready.{Whole};
-ghost use Rattle.slot_fits.specs.Method.{kindAt, PilotWidth};
+ghost use Rattle.slot_fits.specs.Method.{PilotWidth};
 
 // Both hold. Neither is left out where the other fails: a jump costs more than a field.
 fn both(a: bool, b: bool) -> bool
@@ -33,29 +32,6 @@ fn all_are(s: &[u8], v: u8, n: usize) -> bool
     let mut k = 0;
     while k < n {
         if s[k] != v {
-            good = false;
-        }
-        k += 1;
-    }
-    good
-}
-
-// DTX or not, as asked.
-fn is_kind(digit: u8, silent: bool) -> bool
-    ensures { λ r. ⌜ r ≡ Bool·beq (eqb digit 2) silent ⌝ }
-{
-    if digit == DTX { silent } else { !silent }
-}
-
-// Whether the first n digits are all of a kind.
-fn all_of_kind(s: &[u8], silent: bool, n: usize) -> bool
-    requires { ⌜ n ≤ length (now s) ⌝ }
-    ensures { λ r. ⌜ r ≡ all n (kindAt silent (now (s .entry))) ⌝ }
-{
-    let mut good = true;
-    let mut k = 0;
-    while k < n {
-        if !is_kind(s[k], silent) {
             good = false;
         }
         k += 1;
@@ -100,30 +76,12 @@ fn is_command(s: &[u8]) -> bool
     }
 }
 
-// Whether the digits of a TFCI field are of one kind, DTX or not.
-pub fn is_tfci(s: &[u8]) -> bool
-    ensures { λ r. ⌜ r ≡ all (length (now (s .entry))) (tfciStands (now (s .entry))) ⌝ }
-{
-    let n = s.len();
-    if n == 0 {
-        return true;
-    }
-    let silent = s[0] == DTX;
-    match n {
-        2 => all_of_kind(s, silent, 2),
-        4 => all_of_kind(s, silent, 4),
-        8 => all_of_kind(s, silent, 8),
-        16 => all_of_kind(s, silent, 16),
-        _ => all_of_kind(s, silent, n),
-    }
-}
-
 // Whether the digits of a pilot field are the slot's pilot.
 fn is_plain(s: &[u8], slot: usize) -> bool
     requires { ⌜ PilotWidth normal (length (now s)) ⌝ }
     ensures { λ r. ⌜ r ≡ all (length (now (s .entry))) (agree (now (s .entry)) (pilotOf (length (now (s .entry))) slot)) ⌝ }
 {
-    let row = dpch::pilot_row(0, slot);
+    let row = dpch_pilot::pilot_row(0, slot);
     match s.len() {
         2 => all_agree(s, &row[2..4], 2),
         4 => all_agree(s, &row, 4),
@@ -160,6 +118,17 @@ fn is_pilot(s: &[u8], kind: usize, slot: usize) -> bool
     }
 }
 
+// Whether no digit is above DTX. A loop of any length goes 32 digits at a time and then four: slots that leave some over are worth a look whose length is a number.
+fn are_digits(s: &[u8]) -> bool
+    ensures { λ r. ⌜ r ≡ all (length (now (s .entry))) (atMost 2 (now (s .entry))) ⌝ }
+{
+    match s.len() {
+        40 => scan::all_at_most(s, 2, 40),
+        80 => scan::all_at_most(s, 2, 80),
+        _ => s.len() <= scan::first_above(s, 2),
+    }
+}
+
 // Each field in its own stretch, and all digits together.
 fn fields_fit(f: Format, slot: usize, xs: &[u8]) -> bool
     requires { ⌜ Whole f (length (now xs)) × PilotWidth (f .kind) (f .pilot) ⌝ }
@@ -171,9 +140,9 @@ fn fields_fit(f: Format, slot: usize, xs: &[u8]) -> bool
     let d = c + f.data2;
     let e = d + f.pilot;
     let last = is_pilot(&xs[d..e], f.kind, slot);
-    let kinds = both(is_tfci(&xs[b..c]), last);
+    let kinds = both(slot_tfci::is_tfci(&xs[b..c]), last);
     let commands = both(is_command(&xs[a..b]), kinds);
-    both(xs.len() <= scan::first_above(xs, 2), commands)
+    both(are_digits(xs), commands)
 }
 
 // Whether the run is a slot of the format and no check of its digits refuses it.

@@ -16,7 +16,7 @@ ghost use Rattle.slot.specs.Outcome.{fieldsVerdict, mapVerdict, Map};
 pub fn first_mixed(s: &[u8]) -> usize
     ensures { λ r. ⌜ r ≡ firstBad (tfciStands (now (s .entry))) (length (now (s .entry))) ⌝ }
 {
-    if slot_fits::is_tfci(s) {
+    if slot_tfci::is_tfci(s) {
         return s.len();
     }
     if s.len() == 0 {
@@ -24,9 +24,9 @@ pub fn first_mixed(s: &[u8]) -> usize
     }
     let first = s[0];
     if first != DTX {
-        return scan::first_equal(s, DTX);
+        return scan_equal::first_equal(s, DTX);
     }
-    scan::first_other(s, DTX)
+    scan_equal::first_other(s, DTX)
 }
 
 // The checks of command, TFCI and data; each counts its places from where it stands in its run.
@@ -62,7 +62,7 @@ fn map_verdict(
 ) -> Verdict
     ensures { λ r. ⌜ r ≡ mapVerdict format slot tpc (now («data» .entry)) (now (tfci .entry)) «out_length» ⌝ }
 {
-    let head = slot::map_head(format, slot, data.len(), tfci.len(), out_length);
+    let head = slot_heads::map_head(format, slot, data.len(), tfci.len(), out_length);
     if head.number != 0 {
         return head;
     }

@@ -25,14 +25,14 @@ fn copy_n(dst: &mut [u8], src: &[u8], n: usize)
 fn write_plain(dst: &mut [u8], slot: usize)
     ensures { λ _. ⌜ now (dst .exit) ≡ over (pilotSource (length (now (dst .entry))) slot) (now (dst .entry)) ⌝ }
 {
-    let row = dpch::pilot_row(0, slot);
+    let row = dpch_pilot::pilot_row(0, slot);
     match dst.len() {
         2 => copy_n(dst, &row[2..4], 2),
         4 => copy_n(dst, &row, 4),
         8 => copy_n(dst, &row, 8),
         16 => copy_n(dst, &row, 16),
         _ => {
-            let other = dpch::pilot_row(0, slot);
+            let other = dpch_pilot::pilot_row(0, slot);
             write::copy(dst, &other)
         }
     }
@@ -66,25 +66,29 @@ pub fn write_pilot(dst: &mut [u8], kind: usize, slot: usize)
     }
 }
 
-// .. on antenna 2 in the normal formats, where the pilot of four bits is not the beginning of the others.
+// .. on antenna 2 in the normal formats, where the pilot of four bits begins with that of two and is not the beginning of the longer ones.
 pub fn write_second(dst: &mut [u8], slot: usize)
     ensures { λ _. ⌜ now (dst .exit) ≡ over (secondSource (length (now (dst .entry))) slot) (now (dst .entry)) ⌝ }
 {
     match dst.len() {
+        2 => {
+            let two = dpch_four::pilot_four(slot);
+            copy_n(dst, &two, 2)
+        }
         4 => {
-            let four = dpch::pilot_four(slot);
+            let four = dpch_four::pilot_four(slot);
             copy_n(dst, &four, 4)
         }
         8 => {
-            let eight = dpch::pilot_row(1, slot);
+            let eight = dpch_pilot::pilot_row(1, slot);
             copy_n(dst, &eight, 8)
         }
         16 => {
-            let row = dpch::pilot_row(1, slot);
+            let row = dpch_pilot::pilot_row(1, slot);
             copy_n(dst, &row, 16)
         }
         _ => {
-            let other = dpch::pilot_row(1, slot);
+            let other = dpch_pilot::pilot_row(1, slot);
             write::copy(dst, &other)
         }
     }

@@ -32,7 +32,7 @@ fn write(f: Format, slot: usize, tpc: u8, data: &[u8], tfci: &[u8], out: &mut [u
 pub fn put(format: usize, slot: usize, tpc: u8, data: &[u8], tfci: &[u8], out: &mut [u8]) -> Verdict
     ensures { λ r. ⌜ Put format slot tpc (now («data» .entry)) (now (tfci .entry)) (now (out .entry)) r (now (out .exit)) ⌝ }
 {
-    let head = slot::map_head(format, slot, data.len(), tfci.len(), out.len());
+    let head = slot_heads::map_head(format, slot, data.len(), tfci.len(), out.len());
     if head.number != 0 {
         return head;
     }

@@ -191,7 +191,7 @@ fn finish(window: &mut [u8], limit: u32, out: &mut [u8], s: Stand) -> Stand
         let free = room(out, last);
         let at = free.at;
         let filled = free.filled;
-        let verdict = job::end(&window[at..filled], (free.before + at) as u32, limit);
+        let verdict = job_check::end(&window[at..filled], (free.before + at) as u32, limit);
         if verdict.number != 0 {
             return refuse(out, verdict, free);
         }

@@ -14,7 +14,7 @@ pub extern "C" fn slt_desk_serve(
 ) -> u64
     ensures { λ r. ⌜ DeskServe (now (last .entry)) heard available n (now (values .entry)) r (now (last .exit)) (now (values .exit)) ⌝ }
 {
-    let served = desk::serve(Desk { last: *last }, heard, available, n, values);
+    let served = desk_serve::serve(Desk { last: *last }, heard, available, n, values);
     let moved = served.desk;
     let verdict = served.verdict;
     *last = moved.last;

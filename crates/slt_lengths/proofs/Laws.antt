@@ -6,7 +6,7 @@ use Prim.Native.Nat.{ℕ, _<_}
 use lib.Dec.{lit<}
 use lib.ListN.{getD}
 use Rattle.run.specs.declared.Verdict.{Verdict}
-use Rattle.run.specs.Verdicts.{Narrow, leaves}
+use Rattle.run.specs.Verdicts.{Narrow}
 use Rattle.run.proofs.Chain.{leaves-small}
 use Rattle.packed.specs.Rule.{packed}
 use Rattle.packed.specs.Outcome.{packedCut}

@@ -1,4 +1,4 @@
-// STTD for a C host: each call is that of the crates `sttd` and `sttd_values`, with the answer packed in one number (docs/INTERFACE.md).
+// STTD for a C host: each call is that of the crates `sttd_digits` and `sttd_values`, with the answer packed in one number (docs/INTERFACE.md).
 use packed::pack;
 use run::Verdict;
 use run::refusal;
@@ -18,7 +18,7 @@ pub extern "C" fn slt_sttd_digits(input: &[u8], out: &mut [u8]) -> u64
             0,
         );
     }
-    pack(sttd::digits(input, out), 0)
+    pack(sttd_digits::digits(input, out), 0)
 }
 
 #[no_mangle]

@@ -77,7 +77,7 @@ RunsJoin = (np pi : ℕ) (t : Tally) (frames more : List ℕ) → length frames 
 
 -- ---- 4096 frames
 
--- a run over 4096 frames comes back to its SFN
+-- a run over 4096 frames that is not refused comes back to its SFN
 abbrev pub ComesBack : Type 0
 ComesBack =
     (np pi : ℕ) (t : Tally) (frames : List ℕ) → length frames ≡ 300 * 4096 → runVerdict np pi t frames ≡ done

@@ -1,4 +1,5 @@
 // When a handset wakes, frame by frame of recorded PICH frames: docs/RULES.md, 'Wake simulation'; TS 25.211, 5.3.3.10.
+use pich::Indicator;
 use pich::Pi;
 use run::Verdict;
 use run::or_else;
@@ -57,20 +58,21 @@ fn frame_head(frame_length: usize, read: u32, woke: u32) -> Verdict
 }
 
 // Indicator q of a frame that the PICH reader accepts, with room for all of them.
-fn look_in(np: usize, q: usize, digits: &[u8], indicators: &mut [u8]) -> Looked
-    requires { ⌜ (q < np) × (length (now indicators) ≡ np) ⌝ }
-    ensures { λ r. ⌜ (r .verdict ≡ readVerdict np (now (digits .entry)) np) × (r .verdict .number ≡ 0 → r .indicator ≡ getD (indicatorsIn np (now (digits .entry))) q 0) ⌝ }
+fn look_in(np: usize, q: Indicator, digits: &[u8], indicators: &mut [u8]) -> Looked
+    requires { ⌜ (q .0 < np) × (length (now indicators) ≡ np) ⌝ }
+    ensures { λ r. ⌜ (r .verdict ≡ readVerdict np (now (digits .entry)) np) × (r .verdict .number ≡ 0 → r .indicator ≡ getD (indicatorsIn np (now (digits .entry))) (q .0) 0) ⌝ }
 {
     let verdict = pich_read::read(np, digits, indicators);
+    let place = q.0;
     Looked {
         verdict,
-        indicator: indicators[q],
+        indicator: indicators[place],
     }
 }
 
-fn look(np: usize, q: usize, digits: &[u8]) -> Looked
-    requires { ⌜ (isNp np ≡ true) × (q < np) ⌝ }
-    ensures { λ r. ⌜ (r .verdict ≡ readVerdict np (now (digits .entry)) np) × (r .verdict .number ≡ 0 → r .indicator ≡ getD (indicatorsIn np (now (digits .entry))) q 0) ⌝ }
+fn look(np: usize, q: Indicator, digits: &[u8]) -> Looked
+    requires { ⌜ (isNp np ≡ true) × (q .0 < np) ⌝ }
+    ensures { λ r. ⌜ (r .verdict ≡ readVerdict np (now (digits .entry)) np) × (r .verdict .number ≡ 0 → r .indicator ≡ getD (indicatorsIn np (now (digits .entry))) (q .0) 0) ⌝ }
 {
     let mut indicators = [0u8; 144];
     look_in(np, q, digits, &mut indicators[0..np])
@@ -109,8 +111,7 @@ pub fn frame(np: usize, pi: usize, digits: &[u8], read: u32, woke: u32, next: u3
             tally,
         };
     }
-    let q = paging.q;
-    let looked = look(np, q.0, digits);
+    let looked = look(np, paging.q, digits);
     let verdict = looked.verdict;
     if verdict.number != 0 {
         return Simulated { verdict, tally };

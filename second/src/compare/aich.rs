@@ -3,8 +3,7 @@
 use super::lengths;
 use crate::answer::Answer;
 use crate::ffi;
-use crate::judge::{Judge, room_in_words, shortened};
-use crate::lent::Lent;
+use crate::judge::Judge;
 use crate::random::Random;
 use crate::rules::aich::{self as rules, SIGNATURES, VALUES, b};
 
@@ -28,8 +27,6 @@ pub fn all(judge: &mut Judge) {
     read_extremes(judge);
     read_random(judge);
     read_lengths(judge);
-    judge.must_have_seen("slt_aich_map", &[0, 3, 11]);
-    judge.must_have_seen("slt_aich_read", &[0, 3, 10]);
 }
 
 // One call each, compared.
@@ -37,32 +34,20 @@ pub fn all(judge: &mut Judge) {
 /// Compares one map and answers the values, if the rules give them.
 fn map(judge: &mut Judge, indicators: Option<&[i32]>, room: Option<usize>) -> Option<Vec<i32>> {
     let expected = rules::map(indicators.unwrap_or(&[]), room.unwrap_or(0));
-    let mut lent_indicators = Lent::holding(indicators, judge.salt());
-    let mut lent_values = Lent::room(room, judge.salt());
-    let got = ffi::aich_map(&mut lent_indicators, &mut lent_values);
-    judge.compare(
-        "slt_aich_map",
-        || format!("indicators {}, values {}", shortened(indicators), room_in_words(room)),
-        Answer::of(&expected),
-        got,
-        [lent_indicators.kept("indicators"), lent_values.after("values", expected.as_deref().ok())],
-    );
+    let mut lent = judge.given("indicators", indicators);
+    let mut values = judge.room("values", room, expected.as_deref().ok());
+    let got = ffi::aich_map(&mut lent, &mut values);
+    judge.compare("slt_aich_map", String::new, Answer::of(&expected), got, [&lent, &values]);
     expected.ok()
 }
 
 /// Compares one read and answers the indicators, if the rules give them.
 fn read(judge: &mut Judge, values: Option<&[i32]>, room: Option<usize>) -> Option<Vec<i32>> {
     let expected = rules::read(values.unwrap_or(&[]), room.unwrap_or(0));
-    let mut lent_values = Lent::holding(values, judge.salt());
-    let mut lent_indicators = Lent::room(room, judge.salt());
-    let got = ffi::aich_read(&mut lent_values, &mut lent_indicators);
-    judge.compare(
-        "slt_aich_read",
-        || format!("values {}, indicators {}", shortened(values), room_in_words(room)),
-        Answer::of(&expected),
-        got,
-        [lent_values.kept("values"), lent_indicators.after("indicators", expected.as_deref().ok())],
-    );
+    let mut lent = judge.given("values", values);
+    let mut indicators = judge.room("indicators", room, expected.as_deref().ok());
+    let got = ffi::aich_read(&mut lent, &mut indicators);
+    judge.compare("slt_aich_read", String::new, Answer::of(&expected), got, [&lent, &indicators]);
     expected.ok()
 }
 

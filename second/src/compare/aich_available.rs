@@ -4,8 +4,7 @@ use super::aich::{NO_INDICATORS, good_values, random_set};
 use super::lengths;
 use crate::answer::Answer;
 use crate::ffi;
-use crate::judge::{Judge, room_in_words, shortened};
-use crate::lent::Lent;
+use crate::judge::Judge;
 use crate::random::Random;
 use crate::rules::aich::{self as rules, SIGNATURES, VALUES};
 
@@ -20,38 +19,28 @@ pub fn all(judge: &mut Judge) {
     out_of_range_and_outside(judge);
     given_by_none_and_outside(judge);
     wrong_lengths(judge);
-    judge.must_have_seen("slt_aich_map_available", &[0, 3, 11, 26]);
-    judge.must_have_seen("slt_aich_read_available", &[0, 3, 10, 26]);
 }
 
 // One call each, compared.
 
 fn map(judge: &mut Judge, available: u16, indicators: Option<&[i32]>, room: Option<usize>) {
     let expected = rules::map_available(available, indicators.unwrap_or(&[]), room.unwrap_or(0));
-    let mut lent_indicators = Lent::holding(indicators, judge.salt());
-    let mut lent_values = Lent::room(room, judge.salt());
-    let got = ffi::aich_map_available(available, &mut lent_indicators, &mut lent_values);
-    judge.compare(
-        "slt_aich_map_available",
-        || format!("set {available:#06x}, indicators {}, values {}", shortened(indicators), room_in_words(room)),
-        Answer::of(&expected),
-        got,
-        [lent_indicators.kept("indicators"), lent_values.after("values", expected.as_deref().ok())],
-    );
+    let mut lent = judge.given("indicators", indicators);
+    let mut values = judge.room("values", room, expected.as_deref().ok());
+    let got = ffi::aich_map_available(available, &mut lent, &mut values);
+    judge.compare("slt_aich_map_available", || set(available), Answer::of(&expected), got, [&lent, &values]);
 }
 
 fn read(judge: &mut Judge, available: u16, values: Option<&[i32]>, room: Option<usize>) {
     let expected = rules::read_available(available, values.unwrap_or(&[]), room.unwrap_or(0));
-    let mut lent_values = Lent::holding(values, judge.salt());
-    let mut lent_indicators = Lent::room(room, judge.salt());
-    let got = ffi::aich_read_available(available, &mut lent_values, &mut lent_indicators);
-    judge.compare(
-        "slt_aich_read_available",
-        || format!("set {available:#06x}, values {}, indicators {}", shortened(values), room_in_words(room)),
-        Answer::of(&expected),
-        got,
-        [lent_values.kept("values"), lent_indicators.after("indicators", expected.as_deref().ok())],
-    );
+    let mut lent = judge.given("values", values);
+    let mut indicators = judge.room("indicators", room, expected.as_deref().ok());
+    let got = ffi::aich_read_available(available, &mut lent, &mut indicators);
+    judge.compare("slt_aich_read_available", || set(available), Answer::of(&expected), got, [&lent, &indicators]);
+}
+
+fn set(available: u16) -> String {
+    format!("set {available:#06x}")
 }
 
 /// Good indicators mapped under a set, and the values that they give without one read under it.

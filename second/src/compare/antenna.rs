@@ -7,8 +7,7 @@ use crate::compare::dpch::{
 use crate::compare::lengths;
 use crate::ffi;
 use crate::fields::{NO_DIGITS, break_tfci, lengths_of, put_somewhere, random_tfci};
-use crate::judge::{Judge, room_in_words, shortened};
-use crate::lent::Lent;
+use crate::judge::Judge;
 use crate::random::Random;
 use crate::rules::antenna::{self as rules, Given};
 use crate::rules::dpch::{self, Fields};
@@ -31,8 +30,6 @@ pub fn all(judge: &mut Judge) {
             single_damage(judge, number);
         }
     }
-    judge.must_have_seen("slt_slot_map_antenna", &[0, 1, 2, 3, 4, 5, 6, 11]);
-    judge.must_have_seen("slt_slot_read_antennas", &[0, 1, 2, 3, 4, 5, 6, 7, 9]);
 }
 
 // One call each, compared.
@@ -52,26 +49,14 @@ impl Map {
         let (data, tfci) = (self.data.as_deref(), self.tfci.as_deref());
         let (numbers, n_out) = (self.numbers, self.room.unwrap_or(0));
         let expected = rules::map(&Given { numbers, data: data.unwrap_or(&[]), tfci: tfci.unwrap_or(&[]), n_out });
-        let mut lent_data = Lent::holding(data, judge.salt());
-        let mut lent_tfci = Lent::holding(tfci, judge.salt());
-        let mut lent_out = Lent::room(self.room, judge.salt());
-        let got = ffi::slot_map_antenna(numbers, &mut lent_data, &mut lent_tfci, &mut lent_out);
-        let out = expected.as_deref().ok();
-        judge.compare(
-            "slt_slot_map_antenna",
-            || self.in_words(),
-            Answer::of(&expected),
-            got,
-            [lent_data.kept("data"), lent_tfci.kept("tfci"), lent_out.after("out", out)],
-        );
+        let mut data = judge.given("data", data);
+        let mut tfci = judge.given("tfci", tfci);
+        let mut out = judge.room("out", self.room, expected.as_deref().ok());
+        let [number, slot, antenna, tpc] = numbers;
+        let got = ffi::slot_map_antenna(number, slot, antenna, tpc, &mut data, &mut tfci, &mut out);
+        let numbers = || format!("format {number}, slot {slot}, antenna {antenna}, tpc {tpc}");
+        judge.compare("slt_slot_map_antenna", numbers, Answer::of(&expected), got, [&data, &tfci, &out]);
         expected.ok()
-    }
-
-    fn in_words(&self) -> String {
-        let (data, tfci) = (shortened(self.data.as_deref()), shortened(self.tfci.as_deref()));
-        let [number, slot, antenna, tpc] = self.numbers;
-        let numbers = format!("format {number}, slot {slot}, antenna {antenna}, tpc {tpc}");
-        format!("{numbers}, data {data}, tfci {tfci}, out {}", room_in_words(self.room))
     }
 
     /// The slots of both antennas.
@@ -101,33 +86,16 @@ impl Read {
         let (n_data, n_tfci) = (self.data.unwrap_or(0), self.tfci.unwrap_or(0));
         let outcome =
             rules::read(self.number, self.slot, first.unwrap_or(&[]), second.unwrap_or(&[]), n_data, n_tfci);
-        let mut lent_first = Lent::holding(first, judge.salt());
-        let mut lent_second = Lent::holding(second, judge.salt());
-        let mut lent_data = Lent::room(self.data, judge.salt());
-        let mut lent_tfci = Lent::room(self.tfci, judge.salt());
-        let streams = [&mut lent_first, &mut lent_second];
-        let got = ffi::slot_read_antennas(self.number, self.slot, streams, &mut lent_data, &mut lent_tfci);
-        let expected = match &outcome {
-            Ok(fields) => Answer::done(fields.tpc.into()),
-            Err(refusal) => Answer::refused(*refusal),
-        };
-        let fields = outcome.ok();
-        let (data, tfci) = (fields.as_ref().map(|f| &f.data[..]), fields.as_ref().map(|f| &f.tfci[..]));
-        let runs = [
-            lent_first.kept("first"),
-            lent_second.kept("second"),
-            lent_data.after("data", data),
-            lent_tfci.after("tfci", tfci),
-        ];
-        judge.compare("slt_slot_read_antennas", || self.in_words(), expected, got, runs);
-        fields
-    }
-
-    fn in_words(&self) -> String {
-        let (data, tfci) = (room_in_words(self.data), room_in_words(self.tfci));
-        let [first, second] = [0, 1].map(|stream: usize| shortened(self.streams[stream].as_deref()));
-        let numbers = format!("format {}, slot {}", self.number, self.slot);
-        format!("{numbers}, first {first}, second {second}, data {data}, tfci {tfci}")
+        let expected = Answer::telling(&outcome, |fields| fields.tpc.into());
+        let fields = outcome.as_ref().ok();
+        let mut first = judge.given("first", first);
+        let mut second = judge.given("second", second);
+        let mut data = judge.room("data", self.data, fields.map(|fields| &fields.data[..]));
+        let mut tfci = judge.room("tfci", self.tfci, fields.map(|fields| &fields.tfci[..]));
+        let got = ffi::slot_read_antennas(self.number, self.slot, &mut first, &mut second, &mut data, &mut tfci);
+        let numbers = || format!("format {}, slot {}", self.number, self.slot);
+        judge.compare("slt_slot_read_antennas", numbers, expected, got, [&first, &second, &data, &tfci]);
+        outcome.ok()
     }
 }
 

@@ -2,8 +2,7 @@
 
 use crate::answer::{Answer, Refusal};
 use crate::ffi;
-use crate::judge::{Judge, room_in_words, shortened};
-use crate::lent::Lent;
+use crate::judge::Judge;
 use crate::random::Random;
 use crate::rules::bank::{self as rules, Slot};
 
@@ -29,87 +28,47 @@ pub fn all(judge: &mut Judge) {
     full_banks(judge);
     rooms(judge);
     orders(judge);
-    judge.must_have_seen("slt_bank_empty", &[0, 28]);
-    judge.must_have_seen("slt_bank_store", &[0, 3, 4, 11, 28, 30, 31]);
-    judge.must_have_seen("slt_bank_fetch", &[0, 3, 11, 28, 29]);
-    judge.must_have_seen("slt_bank_drop", &[0, 11, 28, 29]);
-    judge.must_have_seen("slt_bank_length", &[0, 11, 28, 29]);
-    judge.must_have_seen("slt_bank_room", &[0, 28]);
 }
 
 // One call each, compared with what is expected of it. Those that are lent the bank for writing answer the bytes it leaves.
 
-fn valued(outcome: &Result<u16, Refusal>) -> Answer {
-    match outcome {
-        Ok(value) => Answer::done(*value),
-        Err(refusal) => Answer::refused(*refusal),
-    }
-}
-
 fn empty(judge: &mut Judge, bank: Option<&[u8]>, expected: Result<Vec<u8>, Refusal>) {
-    let mut lent = Lent::holding(bank, judge.salt());
+    let mut lent = judge.changed("bank", bank, expected.as_deref().ok());
     let got = ffi::bank_empty(&mut lent);
-    let after = expected.as_deref().ok();
-    judge.compare("slt_bank_empty", || shortened(bank), Answer::of(&expected), got, [lent.after("bank", after)]);
+    judge.compare("slt_bank_empty", String::new, Answer::of(&expected), got, [&lent]);
 }
 
 fn store(judge: &mut Judge, bank: Option<&[u8]>, number: usize, slot: Option<&[u8]>, expected: Result<Vec<u8>, Refusal>) {
-    let mut lent = Lent::holding(bank, judge.salt());
-    let mut lent_slot = Lent::holding(slot, judge.salt());
-    let got = ffi::bank_store(&mut lent, number, &mut lent_slot);
-    let after = expected.as_deref().ok();
-    judge.compare(
-        "slt_bank_store",
-        || format!("bank {}, number {number}, slot {}", shortened(bank), shortened(slot)),
-        Answer::of(&expected),
-        got,
-        [lent.after("bank", after), lent_slot.kept("slot")],
-    );
+    let mut lent = judge.changed("bank", bank, expected.as_deref().ok());
+    let mut slot = judge.given("slot", slot);
+    let got = ffi::bank_store(&mut lent, number, &mut slot);
+    judge.compare("slt_bank_store", || format!("number {number}"), Answer::of(&expected), got, [&lent, &slot]);
 }
 
 fn fetch(judge: &mut Judge, bank: Option<&[u8]>, number: usize, room: Option<usize>, expected: Result<Vec<u8>, Refusal>) {
-    let mut lent = Lent::holding(bank, judge.salt());
-    let mut out = Lent::room(room, judge.salt());
+    let mut lent = judge.given("bank", bank);
+    let mut out = judge.room("output", room, expected.as_deref().ok());
     let got = ffi::bank_fetch(&mut lent, number, &mut out);
-    let after = expected.as_deref().ok();
-    judge.compare(
-        "slt_bank_fetch",
-        || format!("bank {}, number {number}, output {}", shortened(bank), room_in_words(room)),
-        Answer::of(&expected),
-        got,
-        [lent.kept("bank"), out.after("output", after)],
-    );
+    judge.compare("slt_bank_fetch", || format!("number {number}"), Answer::of(&expected), got, [&lent, &out]);
 }
 
 fn drop(judge: &mut Judge, bank: Option<&[u8]>, number: usize, expected: Result<Vec<u8>, Refusal>) {
-    let mut lent = Lent::holding(bank, judge.salt());
+    let mut lent = judge.changed("bank", bank, expected.as_deref().ok());
     let got = ffi::bank_drop(&mut lent, number);
-    let after = expected.as_deref().ok();
-    judge.compare(
-        "slt_bank_drop",
-        || format!("bank {}, number {number}", shortened(bank)),
-        Answer::of(&expected),
-        got,
-        [lent.after("bank", after)],
-    );
+    judge.compare("slt_bank_drop", || format!("number {number}"), Answer::of(&expected), got, [&lent]);
 }
 
 fn length(judge: &mut Judge, bank: Option<&[u8]>, number: usize, expected: Result<u16, Refusal>) {
-    let mut lent = Lent::holding(bank, judge.salt());
+    let mut lent = judge.given("bank", bank);
     let got = ffi::bank_length(&mut lent, number);
-    judge.compare(
-        "slt_bank_length",
-        || format!("bank {}, number {number}", shortened(bank)),
-        valued(&expected),
-        got,
-        [lent.kept("bank")],
-    );
+    let expected = Answer::telling(&expected, |length| *length);
+    judge.compare("slt_bank_length", || format!("number {number}"), expected, got, [&lent]);
 }
 
 fn room(judge: &mut Judge, bank: Option<&[u8]>, expected: Result<u16, Refusal>) {
-    let mut lent = Lent::holding(bank, judge.salt());
+    let mut lent = judge.given("bank", bank);
     let got = ffi::bank_room(&mut lent);
-    judge.compare("slt_bank_room", || shortened(bank), valued(&expected), got, [lent.kept("bank")]);
+    judge.compare("slt_bank_room", String::new, Answer::telling(&expected, |room| *room), got, [&lent]);
 }
 
 /// Every call on some bytes, with what the rules read from them.

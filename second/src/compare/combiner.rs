@@ -1,10 +1,10 @@
 //! The AICH combiner: the library's call against the rules, and both against a channel of two antennas.
 
+use super::aich::random_set;
 use super::lengths;
 use crate::answer::Answer;
 use crate::ffi;
-use crate::judge::{Judge, room_in_words, shortened};
-use crate::lent::Lent;
+use crate::judge::Judge;
 use crate::random::Random;
 use crate::rules::aich::{self, SIGNATURES, VALUES};
 use crate::rules::combiner::{self as rules, GAIN_LIMIT, RECEIVED_LIMIT, combined, gain_pair, symbols};
@@ -31,7 +31,6 @@ pub fn all(judge: &mut Judge) {
     zero_gains(judge);
     wrong_lengths(judge);
     fault_sets(judge);
-    judge.must_have_seen("slt_aich_combine", &[0, 3, 11, 12]);
 }
 
 // One call, compared.
@@ -39,16 +38,11 @@ pub fn all(judge: &mut Judge) {
 /// Compares one call and answers the results, if the rules give them.
 fn combine(judge: &mut Judge, gains: [i64; 4], received: Option<&[i32]>, room: Option<usize>) -> Option<Vec<i64>> {
     let expected = rules::combine(gains, received.unwrap_or(&[]), room.unwrap_or(0));
-    let mut lent_received = Lent::holding(received, judge.salt());
-    let mut lent_results = Lent::room(room, judge.salt());
-    let got = ffi::aich_combine(gains, &mut lent_received, &mut lent_results);
-    judge.compare(
-        "slt_aich_combine",
-        || format!("gains {gains:?}, received {}, results {}", shortened(received), room_in_words(room)),
-        Answer::of(&expected),
-        got,
-        [lent_received.kept("received"), lent_results.after("results", expected.as_deref().ok())],
-    );
+    let mut lent = judge.given("received", received);
+    let mut results = judge.room("results", room, expected.as_deref().ok());
+    let [h1_re, h1_im, h2_re, h2_im] = gains;
+    let got = ffi::aich_combine(h1_re, h1_im, h2_re, h2_im, &mut lent, &mut results);
+    judge.compare("slt_aich_combine", || format!("gains {gains:?}"), Answer::of(&expected), got, [&lent, &results]);
     expected.ok()
 }
 
@@ -85,11 +79,6 @@ fn through_channel(judge: &mut Judge, gains: [i64; 4], indicators: &[i32], noise
 }
 
 // The inputs.
-
-/// Sixteen indicators -1, 0, +1.
-fn random_set(random: &mut Random) -> Vec<i32> {
-    (0..SIGNATURES).map(|_| random.below(3) as i32 - 1).collect()
-}
 
 /// One signature alone.
 fn only(signature: usize, indicator: i32) -> Vec<i32> {

@@ -1,16 +1,15 @@
 //! The compressed DPCH frame: the library's two calls against the rules.
 
 use super::dpch::{BAD_FORMATS, DAMAGE, change_length, other_length};
-use super::frame::runs_of_other_lengths;
+use super::frame::{slots_of, spoil_fields};
+use super::frames::{self, Map, Read, SLOTS, good_map, good_read, read_of};
 use crate::answer::{Answer, Refusal};
 use crate::ffi;
-use crate::fields::{NO_COMMANDS, NO_DIGITS, break_tfci, put_somewhere, random_tfci};
-use crate::judge::{Judge, room_in_words, shortened};
+use crate::judge::Judge;
 use crate::lent::Lent;
 use crate::random::Random;
 use crate::rules::compressed::{self as rules, Frame};
 use crate::rules::dpch::Format;
-use crate::rules::frame::{Fields, SLOTS};
 
 /// Numbers that no slot and no count of slots has.
 const HUGE: [usize; 9] = [
@@ -25,7 +24,7 @@ pub fn all(judge: &mut Judge) {
     for (format, kind) in rows() {
         every_gap(judge, format, kind);
         some_gaps(judge, format, kind);
-        wrong_lengths(judge, format, kind);
+        frames::wrong_lengths(judge, Frame { format, kind, first: 3, missing: 4 });
         faults(judge, format, kind);
     }
     for (format, kind) in [(0, 2), (3, 1), (12, 2)] {
@@ -37,8 +36,6 @@ pub fn all(judge: &mut Judge) {
     }
     no_row(judge);
     huge_numbers(judge);
-    judge.must_have_seen("slt_compressed_map", &[0, 1, 3, 4, 5, 6, 27]);
-    judge.must_have_seen("slt_compressed_read", &[0, 1, 3, 4, 5, 6, 7, 9, 27]);
 }
 
 /// The formats and kinds that the table has.
@@ -53,94 +50,41 @@ fn gaps() -> Vec<(usize, usize)> {
     all.filter(|(first, missing)| rules::gap(*first, *missing).is_ok()).collect()
 }
 
-// One call each, compared.
+// The calls.
 
-/// What one map is given.
-#[derive(Clone)]
-struct Map {
-    of: Frame,
-    data: Option<Vec<u8>>,
-    tfci: Option<Vec<u8>>,
-    room: Option<usize>,
-    commands: Option<Vec<u8>>,
-}
+impl frames::Frame for Frame {
+    const CALLS: [&'static str; 2] = ["slt_compressed_map", "slt_compressed_read"];
+    const FIELDS: [&'static str; 2] = ["data", "tfci"];
 
-impl Map {
-    /// Compares the call and answers the frame, if the rules give one.
-    fn compare(&self, judge: &mut Judge) -> Option<Vec<u8>> {
-        let (data, tfci, commands) = (self.data.as_deref(), self.tfci.as_deref(), self.commands.as_deref());
-        let expected = self.expected();
-        let mut lent_data = Lent::holding(data, judge.salt());
-        let mut lent_tfci = Lent::holding(tfci, judge.salt());
-        let mut lent_out = Lent::room(self.room, judge.salt());
-        let mut lent_commands = Lent::holding(commands, judge.salt());
-        let got =
-            ffi::compressed_map(self.of, &mut lent_data, &mut lent_tfci, &mut lent_out, &mut lent_commands);
-        let runs = [
-            lent_data.kept("data"),
-            lent_tfci.kept("tfci"),
-            lent_out.after("out", expected.as_deref().ok()),
-            lent_commands.kept("commands"),
-        ];
-        judge.compare("slt_compressed_map", || self.in_words(), Answer::of(&expected), got, runs);
-        expected.ok()
+    fn in_words(self) -> String {
+        format!("{self:?}")
     }
 
-    /// What the rules say of the call.
-    fn expected(&self) -> Result<Vec<u8>, Refusal> {
-        let data = self.data.as_deref().unwrap_or(&[]);
-        let tfci = self.tfci.as_deref().unwrap_or(&[]);
-        let commands = self.commands.as_deref().unwrap_or(&[]);
-        rules::map(self.of, data, tfci, self.room.unwrap_or(0), commands)
+    fn lengths(self) -> ([usize; 3], usize) {
+        let (format, sent) = (format_of(self), sent(self));
+        ([sent * format.data(), sent * format.tfci, sent], SLOTS * format.slot)
     }
 
-    fn in_words(&self) -> String {
-        let (data, tfci) = (shortened(self.data.as_deref()), shortened(self.tfci.as_deref()));
-        let (out, commands) = (room_in_words(self.room), shortened(self.commands.as_deref()));
-        format!("{:?}, data {data}, tfci {tfci}, out {out}, commands {commands}", self.of)
+    fn fields(self, random: &mut Random) -> [Vec<u8>; 3] {
+        slots_of(random, &format_of(self), sent(self))
+    }
+
+    fn rule_map(self, [data, tfci, commands]: [&[u8]; 3], n_out: usize) -> Result<Vec<u8>, Refusal> {
+        rules::map(self, data, tfci, n_out, commands)
+    }
+
+    fn rule_read(self, frame: &[u8], [data, tfci, commands]: [usize; 3]) -> Result<[Vec<u8>; 3], Refusal> {
+        rules::read(self, frame, data, tfci, commands).map(Into::into)
+    }
+
+    fn library_map(self, [data, tfci, commands]: [&mut Lent<u8>; 3], out: &mut Lent<u8>) -> Answer {
+        ffi::compressed_map(self, data, tfci, out, commands)
+    }
+
+    fn library_read(self, frame: &mut Lent<u8>, [data, tfci, commands]: [&mut Lent<u8>; 3]) -> Answer {
+        ffi::compressed_read(self, frame, data, tfci, commands)
     }
 }
-
-/// What one read is given.
-#[derive(Clone)]
-struct Read {
-    of: Frame,
-    frame: Option<Vec<u8>>,
-    data: Option<usize>,
-    tfci: Option<usize>,
-    commands: Option<usize>,
-}
-
-impl Read {
-    /// Compares the call and answers the fields, if the rules give them.
-    fn compare(&self, judge: &mut Judge) -> Option<Fields> {
-        let frame = self.frame.as_deref();
-        let (n_data, n_tfci) = (self.data.unwrap_or(0), self.tfci.unwrap_or(0));
-        let expected = rules::read(self.of, frame.unwrap_or(&[]), n_data, n_tfci, self.commands.unwrap_or(0));
-        let mut lent_frame = Lent::holding(frame, judge.salt());
-        let mut lent_data = Lent::room(self.data, judge.salt());
-        let mut lent_tfci = Lent::room(self.tfci, judge.salt());
-        let mut lent_commands = Lent::room(self.commands, judge.salt());
-        let got =
-            ffi::compressed_read(self.of, &mut lent_frame, &mut lent_data, &mut lent_tfci, &mut lent_commands);
-        let fields = expected.as_ref().ok();
-        let runs = [
-            lent_frame.kept("frame"),
-            lent_data.after("data", fields.map(|f| &f.data[..])),
-            lent_tfci.after("tfci", fields.map(|f| &f.tfci[..])),
-            lent_commands.after("commands", fields.map(|f| &f.commands[..])),
-        ];
-        judge.compare("slt_compressed_read", || self.in_words(), Answer::of(&expected), got, runs);
-        expected.ok()
-    }
-
-    fn in_words(&self) -> String {
-        let [data, tfci, commands] = [self.data, self.tfci, self.commands].map(room_in_words);
-        format!("{:?}, frame {}, data {data}, tfci {tfci}, commands {commands}", self.of, shortened(self.frame.as_deref()))
-    }
-}
-
-// The inputs.
 
 fn format_of(of: Frame) -> Format {
     rules::format(of.format, of.kind).expect("a row of the table")
@@ -151,21 +95,7 @@ fn sent(of: Frame) -> usize {
     SLOTS.saturating_sub(of.missing)
 }
 
-/// A call that is done where the gap stands: right lengths, random good digits, each slot's TFCI of its own kind.
-fn good_map(random: &mut Random, of: Frame) -> Map {
-    let format = format_of(of);
-    let data = Some(random.digits(sent(of) * format.data(), 3));
-    let tfci = Some((0..sent(of)).flat_map(|_| random_tfci(random, &format)).collect());
-    let commands = Some(random.digits(sent(of), 2));
-    Map { of, data, tfci, room: Some(SLOTS * format.slot), commands }
-}
-
-/// The read of a run that has the right length.
-fn read_of(of: Frame, frame: Vec<u8>) -> Read {
-    let format = format_of(of);
-    let (data, tfci) = (Some(sent(of) * format.data()), Some(sent(of) * format.tfci));
-    Read { of, frame: Some(frame), data, tfci, commands: Some(sent(of)) }
-}
+// The inputs.
 
 /// Every first slot and every number of missing ones, whether the gap stands or not, each with the lengths that it would
 /// have, and with one run too long.
@@ -180,16 +110,14 @@ fn every_gap(judge: &mut Judge, format: usize, kind: usize) {
             let mut long = call;
             let mut long_read = read_of(of, frame);
             match (first + missing) % 4 {
-                0 => change_length(&mut long.data, &mut random),
-                1 => change_length(&mut long.tfci, &mut random),
-                2 => long.room = other_length(long.room, &mut random),
-                _ => change_length(&mut long.commands, &mut random),
-            }
-            match (first + missing) % 4 {
-                0 => change_length(&mut long_read.frame, &mut random),
-                1 => long_read.data = other_length(long_read.data, &mut random),
-                2 => long_read.tfci = other_length(long_read.tfci, &mut random),
-                _ => long_read.commands = other_length(long_read.commands, &mut random),
+                3 => {
+                    long.room = other_length(long.room, &mut random);
+                    change_length(&mut long_read.frame, &mut random);
+                }
+                run => {
+                    change_length(&mut long.runs[run], &mut random);
+                    long_read.rooms[run] = other_length(long_read.rooms[run], &mut random);
+                }
             }
             long.compare(judge);
             long_read.compare(judge);
@@ -210,15 +138,8 @@ fn there_and_back(judge: &mut Judge, format: usize, kind: usize, (first, missing
     let of = Frame { format, kind, first, missing };
     let mut random = Random::new((format * 4096 + kind * 256 + first * 16 + missing) as u64);
     for round in 0..4 {
-        let mut call = good_map(&mut random, of);
-        if format_of(of).tfci == 0 && round % 2 == 0 {
-            call.tfci = None;
-        }
-        let frame = call.compare(judge).expect("a good call");
-        let back = read_of(of, frame).compare(judge).expect("a mapped frame");
-        let tfci = call.tfci.unwrap_or_default();
-        let sent = Fields { data: call.data.unwrap(), tfci, commands: call.commands.unwrap() };
-        assert_eq!(back, sent, "the rules themselves do not round trip");
+        let call = good_map(&mut random, of);
+        frames::there_and_back(judge, call, [round % 2 == 0, false]);
     }
 }
 
@@ -262,23 +183,6 @@ fn wrong_gap(judge: &mut Judge, format: usize, kind: usize, (first, missing): (u
     }
 }
 
-/// Each run of a wrong length, and each two of them, with good and bad digits in them.
-fn wrong_lengths(judge: &mut Judge, format: usize, kind: usize) {
-    let of = Frame { format, kind, first: 3, missing: 4 };
-    let row = format_of(of);
-    let (data, tfci, frame, commands) = (sent(of) * row.data(), sent(of) * row.tfci, SLOTS * row.slot, sent(of));
-    for (round, n) in runs_of_other_lengths([data, tfci, frame, commands].map(Some)).into_iter().enumerate() {
-        let digit = [0, 1, 2, 255][round % 4];
-        let run = |length: Option<usize>| length.map(|elements| vec![digit; elements]);
-        Map { of, data: run(n[0]), tfci: run(n[1]), room: n[2], commands: run(n[3]) }.compare(judge);
-    }
-    for (round, n) in runs_of_other_lengths([frame, data, tfci, commands].map(Some)).into_iter().enumerate() {
-        let digit = [0, 1, 2, 255][round % 4];
-        let frame = n[0].map(|elements| vec![digit; elements]);
-        Read { of, frame, data: n[1], tfci: n[2], commands: n[3] }.compare(judge);
-    }
-}
-
 /// A fault of the fields in each of two transmitted slots: the lower one wins, then the earlier check.
 fn faults(judge: &mut Judge, format: usize, kind: usize) {
     let of = Frame { format, kind, first: 2, missing: 3 };
@@ -288,18 +192,19 @@ fn faults(judge: &mut Judge, format: usize, kind: usize) {
         for kinds in 0..16 {
             let mut call = good_map(&mut random, of);
             for (index, fault) in [(high, kinds / 4), (low, kinds % 4)] {
-                let tfci = &mut call.tfci.as_mut().unwrap()[index * row.tfci..(index + 1) * row.tfci];
-                let data = &mut call.data.as_mut().unwrap()[index * row.data()..(index + 1) * row.data()];
-                match fault {
-                    0 => call.commands.as_mut().unwrap()[index] = random.pick(&NO_COMMANDS),
-                    1 => put_somewhere(tfci, &NO_DIGITS, &mut random),
-                    2 => break_tfci(tfci, &mut random),
-                    _ => put_somewhere(data, &NO_DIGITS, &mut random),
-                }
+                spoil_fields(&mut call, &row, index, fault, &mut random);
             }
             call.compare(judge);
         }
     }
+}
+
+/// The numbers of a frame with the runs of another, which is a good one.
+fn with_good_runs(judge: &mut Judge, random: &mut Random, of: Frame) {
+    let good = Frame { format: 3, kind: 1, first: 3, missing: 4 };
+    let (mapping, reading) = (good_map(random, good), good_read(random, good));
+    Map { of, ..mapping }.compare(judge);
+    Read { of, ..reading }.compare(judge);
 }
 
 /// A format, a kind, or a kind of a format that the table lacks wins over every other fault.
@@ -310,12 +215,7 @@ fn no_row(judge: &mut Judge) {
     let kinds = BAD_KINDS.into_iter().flat_map(|kind| (0..=17).map(move |format| (format, kind)));
     for (format, kind) in lacking.chain(formats).chain(kinds) {
         for (first, missing) in [(3, 4), (9, 9), (usize::MAX, usize::MAX)] {
-            let of = Frame { format, kind, first, missing };
-            let good = good_map(&mut random, Frame { format: 3, kind: 1, first: 3, missing: 4 });
-            let frame = good.expected().expect("a good call");
-            Map { of, ..good }.compare(judge);
-            let read = read_of(Frame { format: 3, kind: 1, first: 3, missing: 4 }, frame);
-            Read { of, ..read }.compare(judge);
+            with_good_runs(judge, &mut random, Frame { format, kind, first, missing });
         }
     }
 }
@@ -328,11 +228,6 @@ fn huge_numbers(judge: &mut Judge) {
         small.chain(HUGE.map(|other| (huge, other)))
     });
     for (first, missing) in pairs {
-        let of = Frame { format: 3, kind: 1, first, missing };
-        let good = good_map(&mut random, Frame { format: 3, kind: 1, first: 3, missing: 4 });
-        let frame = good.expected().expect("a good call");
-        Map { of, ..good }.compare(judge);
-        let read = read_of(Frame { format: 3, kind: 1, first: 3, missing: 4 }, frame);
-        Read { of, ..read }.compare(judge);
+        with_good_runs(judge, &mut random, Frame { format: 3, kind: 1, first, missing });
     }
 }

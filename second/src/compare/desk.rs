@@ -1,10 +1,9 @@
 //! The random access desk: the library's three calls against the rules, slot by slot and in sequences.
 
 use super::lengths;
-use crate::answer::{Answer, Refusal};
+use crate::answer::Answer;
 use crate::ffi;
-use crate::judge::{Judge, room_in_words};
-use crate::lent::Lent;
+use crate::judge::Judge;
 use crate::random::Random;
 use crate::rules::aich::{SIGNATURES, VALUES, read_available};
 use crate::rules::desk::{self as rules, FRESH};
@@ -31,9 +30,6 @@ pub fn all(judge: &mut Judge) {
     waits(judge);
     refused(judge);
     distances(judge);
-    judge.must_have_seen("slt_desk_serve", &[0, 3, 11]);
-    judge.must_have_seen("slt_desk_to_aich", &[0, 11]);
-    judge.must_have_seen("slt_desk_to_message", &[0, 11]);
 }
 
 // One call, compared.
@@ -50,22 +46,13 @@ struct Given {
 fn serve(judge: &mut Judge, last: usize, given: Given, room: Option<usize>) -> (Vec<i32>, usize) {
     let Given { heard, available, n } = given;
     let expected = rules::serve(last, heard, available, n, room.unwrap_or(0));
-    let mut lent_last = Lent::holding(Some(&[last]), judge.salt());
-    let mut lent_values = Lent::room(room, judge.salt());
-    let got = ffi::desk_serve(&mut lent_last, heard, available, n, &mut lent_values);
     let after = expected.as_ref().ok().map(|(_, after)| [*after]);
-    let values = expected.as_ref().ok().map(|(values, _)| values.as_slice());
-    judge.compare(
-        "slt_desk_serve",
-        || {
-            let values = room_in_words(room);
-            format!("desk {last}, heard {heard:#06x}, available {available:#06x}, n {n}, values {values}")
-        },
-        Answer::of(&expected),
-        got,
-        [lent_last.after("desk", after.as_ref().map(|one| &one[..])), lent_values.after("values", values)],
-    );
-    (lent_values.run().to_vec(), lent_last.run()[0])
+    let mut desk = judge.changed("desk", Some(&[last]), after.as_ref().map(|one| &one[..]));
+    let mut values = judge.room("values", room, expected.as_ref().ok().map(|(values, _)| &values[..]));
+    let got = ffi::desk_serve(&mut desk, heard, available, n, &mut values);
+    let numbers = || format!("heard {heard:#06x}, available {available:#06x}, n {n}");
+    judge.compare("slt_desk_serve", numbers, Answer::of(&expected), got, [&desk, &values]);
+    (values.run().to_vec(), desk.run()[0])
 }
 
 fn good(judge: &mut Judge, last: usize, given: Given) -> (Vec<i32>, usize) {
@@ -202,13 +189,10 @@ fn refused(judge: &mut Judge) {
 fn distances(judge: &mut Judge) {
     let timings = (0..1000).chain([65535, 65536, 65537, 1 << 32, (1 << 32) + 1, 1 << 63, usize::MAX]);
     for timing in timings {
-        let inputs = || format!("timing {timing}");
-        let distance = |outcome: Result<usize, Refusal>| match outcome {
-            Ok(chips) => Answer::done(chips as u16),
-            Err(refusal) => Answer::refused(refusal),
-        };
-        let (to_aich, to_message) = (distance(rules::to_aich(timing)), distance(rules::to_message(timing)));
-        judge.compare("slt_desk_to_aich", inputs, to_aich, ffi::desk_to_aich(timing), []);
-        judge.compare("slt_desk_to_message", inputs, to_message, ffi::desk_to_message(timing), []);
+        let numbers = || format!("timing {timing}");
+        let [to_aich, to_message] = [rules::to_aich(timing), rules::to_message(timing)]
+            .map(|distance| Answer::telling(&distance, |chips| *chips as u16));
+        judge.compare("slt_desk_to_aich", numbers, to_aich, ffi::desk_to_aich(timing), []);
+        judge.compare("slt_desk_to_message", numbers, to_message, ffi::desk_to_message(timing), []);
     }
 }

@@ -4,8 +4,7 @@ use super::dpch::{DAMAGE, change_length, digits_of, other_length};
 use super::lengths;
 use crate::answer::Answer;
 use crate::ffi;
-use crate::judge::{Judge, room_in_words, shortened};
-use crate::lent::Lent;
+use crate::judge::Judge;
 use crate::random::Random;
 use crate::rules::dpdch as rules;
 
@@ -49,7 +48,6 @@ pub fn all(judge: &mut Judge) {
             wrong_lengths(judge, call, number);
             other_formats(judge, call, number);
         }
-        judge.must_have_seen(call.name, &[0, 1, 3, 4]);
     }
 }
 
@@ -68,15 +66,10 @@ impl Call {
     fn compare(&self, judge: &mut Judge, given: &Given) -> Option<Vec<u8>> {
         let run = given.run.as_deref();
         let expected = rules::carry(given.number, self.slots, run.unwrap_or(&[]), given.room.unwrap_or(0));
-        let mut lent_run = Lent::holding(run, judge.salt());
-        let mut lent_room = Lent::room(given.room, judge.salt());
-        let got = (self.library)(given.number, &mut lent_run, &mut lent_room);
-        let inputs = || {
-            let (run, room) = (shortened(run), room_in_words(given.room));
-            format!("format {}, given {run}, to be written {room}", given.number)
-        };
-        let runs = [lent_run.kept("given"), lent_room.after("to be written", expected.as_deref().ok())];
-        judge.compare(self.name, inputs, Answer::of(&expected), got, runs);
+        let mut lent = judge.given("given", run);
+        let mut room = judge.room("to be written", given.room, expected.as_deref().ok());
+        let got = (self.library)(given.number, &mut lent, &mut room);
+        judge.compare(self.name, || format!("format {}", given.number), Answer::of(&expected), got, [&lent, &room]);
         expected.ok()
     }
 

@@ -3,8 +3,8 @@
 use super::lengths;
 use crate::answer::Answer;
 use crate::ffi;
-use crate::judge::{Judge, room_in_words, shortened};
-use crate::lent::Lent;
+use crate::judge::Judge;
+use crate::lent::Judged;
 use crate::random::Random;
 use crate::rules::hspdsch::{self as rules, FORMATS, coded, per_symbol, size, symbol};
 
@@ -29,8 +29,6 @@ pub fn all(judge: &mut Judge) {
         other_format(judge, format);
     }
     bad_formats(judge);
-    judge.must_have_seen("slt_hspdsch_map", &[0, 1, 3, 4]);
-    judge.must_have_seen("slt_hspdsch_read", &[0, 1, 3, 4, 9]);
 }
 
 // One call each, compared.
@@ -40,42 +38,25 @@ fn map(
     judge: &mut Judge, format: usize, data: Option<&[u8]>, room1: Option<usize>, room2: Option<usize>,
 ) -> Option<[Vec<u8>; 2]> {
     let expected = rules::map(format, data.unwrap_or(&[]), room1.unwrap_or(0), room2.unwrap_or(0));
-    let mut lent_data = Lent::holding(data, judge.salt());
-    let mut lent_antenna1 = Lent::room(room1, judge.salt());
-    let mut lent_antenna2 = Lent::room(room2, judge.salt());
-    let got = ffi::hspdsch_map(format, &mut lent_data, &mut lent_antenna1, &mut lent_antenna2);
-    let subframes = expected.as_ref().ok();
-    let runs = [
-        lent_data.kept("data"),
-        lent_antenna1.after("antenna 1", subframes.map(|both| &both.0[..])),
-        lent_antenna2.after("antenna 2", subframes.map(|both| &both.1[..])),
-    ];
-    let inputs = || {
-        let rooms = [room1, room2].map(room_in_words);
-        format!("format {format}, data {}, antenna 1 {}, antenna 2 {}", shortened(data), rooms[0], rooms[1])
-    };
-    judge.compare("slt_hspdsch_map", inputs, Answer::of(&expected), got, runs);
-    expected.ok().map(|both| [both.0, both.1])
+    let [first, second] = [0, 1].map(|antenna| expected.as_ref().ok().map(|both| &both[antenna][..]));
+    let mut lent = judge.given("data", data);
+    let mut antenna1 = judge.room("antenna 1", room1, first);
+    let mut antenna2 = judge.room("antenna 2", room2, second);
+    let got = ffi::hspdsch_map(format, &mut lent, &mut antenna1, &mut antenna2);
+    let runs: [&dyn Judged; 3] = [&lent, &antenna1, &antenna2];
+    judge.compare("slt_hspdsch_map", || format!("format {format}"), Answer::of(&expected), got, runs);
+    expected.ok()
 }
 
 /// Compares one read and answers the data, if the rules give them.
 fn read(judge: &mut Judge, format: usize, antennas: [Option<&[u8]>; 2], room: Option<usize>) -> Option<Vec<u8>> {
     let [antenna1, antenna2] = antennas;
     let expected = rules::read(format, antenna1.unwrap_or(&[]), antenna2.unwrap_or(&[]), room.unwrap_or(0));
-    let mut lent_antenna1 = Lent::holding(antenna1, judge.salt());
-    let mut lent_antenna2 = Lent::holding(antenna2, judge.salt());
-    let mut lent_data = Lent::room(room, judge.salt());
-    let got = ffi::hspdsch_read(format, &mut lent_antenna1, &mut lent_antenna2, &mut lent_data);
-    let runs = [
-        lent_antenna1.kept("antenna 1"),
-        lent_antenna2.kept("antenna 2"),
-        lent_data.after("data", expected.as_deref().ok()),
-    ];
-    let inputs = || {
-        let subframes = antennas.map(shortened);
-        format!("format {format}, antenna 1 {}, antenna 2 {}, data {}", subframes[0], subframes[1], room_in_words(room))
-    };
-    judge.compare("slt_hspdsch_read", inputs, Answer::of(&expected), got, runs);
+    let mut lent1 = judge.given("antenna 1", antenna1);
+    let mut lent2 = judge.given("antenna 2", antenna2);
+    let mut data = judge.room("data", room, expected.as_deref().ok());
+    let got = ffi::hspdsch_read(format, &mut lent1, &mut lent2, &mut data);
+    judge.compare("slt_hspdsch_read", || format!("format {format}"), Answer::of(&expected), got, [&lent1, &lent2, &data]);
     expected.ok()
 }
 
@@ -86,8 +67,7 @@ fn read_both(judge: &mut Judge, format: usize, subframes: &[Vec<u8>; 2]) -> Opti
 
 /// Good subframes to start from: the rules' own.
 fn good(format: usize, data: &[u8]) -> [Vec<u8>; 2] {
-    let (antenna1, antenna2) = rules::map(format, data, data.len(), data.len()).expect("good data");
-    [antenna1, antenna2]
+    rules::map(format, data, data.len(), data.len()).expect("good data")
 }
 
 // Map

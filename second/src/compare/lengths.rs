@@ -16,20 +16,15 @@ pub fn all(judge: &mut Judge) {
     for call in CALLS {
         told(judge, &call);
         asked(judge, &call);
-        judge.must_have_seen(call.name, &[0, 1, 11]);
         judge.must_have_seen(call.mapper, &[0, 3]);
     }
     gaps(judge);
     gaps_asked(judge);
-    judge.must_have_seen("slt_compressed_lengths", &[0, 1, 11, 27]);
     judge.must_have_seen("slt_compressed_map", &[0, 3]);
 }
 
 fn answer(outcome: Result<usize, Refusal>) -> Answer {
-    match outcome {
-        Ok(length) => Answer::done(u16::try_from(length).expect("a length fits 16 bits")),
-        Err(refusal) => Answer::refused(refusal),
-    }
+    Answer::telling(&outcome, |length| u16::try_from(*length).expect("a length fits 16 bits"))
 }
 
 /// Every number below a bound, and huge ones that are such numbers in their low bits.
@@ -57,7 +52,10 @@ const CALLS: [Call; 8] = [
         runs: 3,
         rule: rules::slot,
         library: ffi::slot_lengths,
-        map: |format, runs| with_three(runs, |data, tfci, out| ffi::slot_map(format, 14, 0, data, tfci, out)),
+        map: |format, runs| {
+            let [data, tfci, out] = each(runs);
+            ffi::slot_map(format, 14, 0, data, tfci, out)
+        },
     },
     Call {
         name: "slt_slot_lengths",
@@ -66,7 +64,8 @@ const CALLS: [Call; 8] = [
         rule: rules::slot,
         library: ffi::slot_lengths,
         map: |format, runs| {
-            with_three(runs, |data, tfci, out| ffi::slot_map_antenna([format, 0, 1, 0], data, tfci, out))
+            let [data, tfci, out] = each(runs);
+            ffi::slot_map_antenna(format, 0, 1, 0, data, tfci, out)
         },
     },
     Call {
@@ -75,7 +74,10 @@ const CALLS: [Call; 8] = [
         runs: 4,
         rule: rules::frame,
         library: ffi::frame_lengths,
-        map: |format, runs| with_four(runs, |data, tfci, out, commands| ffi::frame_map(format, data, tfci, out, commands)),
+        map: |format, runs| {
+            let [data, tfci, out, commands] = each(runs);
+            ffi::frame_map(format, data, tfci, out, commands)
+        },
     },
     Call {
         name: "slt_dpdch_lengths",
@@ -83,7 +85,10 @@ const CALLS: [Call; 8] = [
         runs: 2,
         rule: rules::dpdch,
         library: ffi::dpdch_lengths,
-        map: |format, runs| with_two(runs, |data, out| ffi::dpdch_map(format, data, out)),
+        map: |format, runs| {
+            let [data, out] = each(runs);
+            ffi::dpdch_map(format, data, out)
+        },
     },
     Call {
         name: "slt_dpdch_frame_lengths",
@@ -91,7 +96,10 @@ const CALLS: [Call; 8] = [
         runs: 2,
         rule: rules::dpdch_frame,
         library: ffi::dpdch_frame_lengths,
-        map: |format, runs| with_two(runs, |data, out| ffi::dpdch_frame_map(format, data, out)),
+        map: |format, runs| {
+            let [data, out] = each(runs);
+            ffi::dpdch_frame_map(format, data, out)
+        },
     },
     Call {
         name: "slt_dpcch_lengths",
@@ -99,7 +107,10 @@ const CALLS: [Call; 8] = [
         runs: 3,
         rule: rules::dpcch,
         library: ffi::dpcch_lengths,
-        map: |format, runs| with_three(runs, |tfci, fbi, out| ffi::dpcch_map(format, 14, 0, tfci, fbi, out)),
+        map: |format, runs| {
+            let [tfci, fbi, out] = each(runs);
+            ffi::dpcch_map(format, 14, 0, tfci, fbi, out)
+        },
     },
     Call {
         name: "slt_dpcch_frame_lengths",
@@ -107,7 +118,10 @@ const CALLS: [Call; 8] = [
         runs: 4,
         rule: rules::dpcch_frame,
         library: ffi::dpcch_frame_lengths,
-        map: |format, runs| with_four(runs, |tfci, fbi, out, commands| ffi::dpcch_frame_map(format, tfci, fbi, out, commands)),
+        map: |format, runs| {
+            let [tfci, fbi, out, commands] = each(runs);
+            ffi::dpcch_frame_map(format, tfci, fbi, out, commands)
+        },
     },
     Call {
         name: "slt_hspdsch_lengths",
@@ -115,27 +129,17 @@ const CALLS: [Call; 8] = [
         runs: 3,
         rule: rules::hspdsch,
         library: ffi::hspdsch_lengths,
-        map: |format, runs| with_three(runs, |data, first, second| ffi::hspdsch_map(format, data, first, second)),
+        map: |format, runs| {
+            let [data, first, second] = each(runs);
+            ffi::hspdsch_map(format, data, first, second)
+        },
     },
 ];
 
-fn with_two(runs: &mut [Lent<u8>], call: impl Fn(&mut Lent<u8>, &mut Lent<u8>) -> Answer) -> Answer {
-    let [a, b] = runs else { panic!("two runs") };
-    call(a, b)
-}
-
-fn with_three(
-    runs: &mut [Lent<u8>], call: impl Fn(&mut Lent<u8>, &mut Lent<u8>, &mut Lent<u8>) -> Answer,
-) -> Answer {
-    let [a, b, c] = runs else { panic!("three runs") };
-    call(a, b, c)
-}
-
-fn with_four(
-    runs: &mut [Lent<u8>], call: impl Fn(&mut Lent<u8>, &mut Lent<u8>, &mut Lent<u8>, &mut Lent<u8>) -> Answer,
-) -> Answer {
-    let [a, b, c, d] = runs else { panic!("four runs") };
-    call(a, b, c, d)
+/// The runs one by one.
+fn each<'a, 'b, const N: usize>(runs: &'a mut [Lent<'b, u8>]) -> [&'a mut Lent<'b, u8>; N] {
+    let all: Vec<&mut Lent<u8>> = runs.iter_mut().collect();
+    all.try_into().unwrap_or_else(|_| panic!("{N} runs"))
 }
 
 /// Formats 0 to 40 and runs 0 to 10, and huge numbers.
@@ -149,8 +153,8 @@ fn told(judge: &mut Judge, call: &Call) {
 }
 
 /// The runs of a mapper as long as told, each all zeros.
-fn lent(judge: &Judge, lengths: &[usize]) -> Vec<Lent<u8>> {
-    let zeros = |length: &usize| Lent::holding(Some(&vec![0; *length]), judge.salt());
+fn lent(judge: &Judge, lengths: &[usize]) -> Vec<Lent<'static, u8>> {
+    let zeros = |length: &usize| judge.given("zeros", Some(&vec![0; *length]));
     lengths.iter().map(zeros).collect()
 }
 
@@ -217,7 +221,8 @@ fn gaps_asked(judge: &mut Judge) {
                     }
                     let lengths: Vec<usize> = (0..4).map(|run| ffi::compressed_lengths(of, run).value.into()).collect();
                     let map = |runs: &mut [Lent<u8>]| {
-                        with_four(runs, |data, tfci, out, commands| ffi::compressed_map(of, data, tfci, out, commands))
+                        let [data, tfci, out, commands] = each(runs);
+                        ffi::compressed_map(of, data, tfci, out, commands)
                     };
                     one_off(judge, "slt_compressed_map", &lengths, map);
                 }

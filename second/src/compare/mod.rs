@@ -13,6 +13,7 @@ pub mod dpcch;
 pub mod dpch;
 pub mod dpdch;
 pub mod frame;
+mod frames;
 pub mod hspdsch;
 pub mod lengths;
 pub mod pccpch;

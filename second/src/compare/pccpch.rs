@@ -3,8 +3,8 @@
 use super::lengths;
 use crate::answer::Answer;
 use crate::ffi;
-use crate::judge::{Judge, room_in_words, shortened};
-use crate::lent::Lent;
+use crate::judge::Judge;
+use crate::lent::Judged;
 use crate::random::Random;
 use crate::rules::pccpch::{self as rules, DATA, FRAME, stands_at};
 
@@ -23,8 +23,6 @@ pub fn all(judge: &mut Judge) {
     read_gaps(judge);
     read_random(judge);
     read_lengths(judge);
-    judge.must_have_seen("slt_pccpch_map", &[0, 3, 4]);
-    judge.must_have_seen("slt_pccpch_read", &[0, 3, 4, 9]);
 }
 
 // One call each, compared.
@@ -32,42 +30,25 @@ pub fn all(judge: &mut Judge) {
 /// Compares one map and answers both frames, if the rules give them.
 fn map(judge: &mut Judge, data: Option<&[u8]>, room1: Option<usize>, room2: Option<usize>) -> Option<[Vec<u8>; 2]> {
     let expected = rules::map(data.unwrap_or(&[]), room1.unwrap_or(0), room2.unwrap_or(0));
-    let mut lent_data = Lent::holding(data, judge.salt());
-    let mut lent_antenna1 = Lent::room(room1, judge.salt());
-    let mut lent_antenna2 = Lent::room(room2, judge.salt());
-    let got = ffi::pccpch_map(&mut lent_data, &mut lent_antenna1, &mut lent_antenna2);
-    let frames = expected.as_ref().ok();
-    let runs = [
-        lent_data.kept("data"),
-        lent_antenna1.after("antenna 1", frames.map(|both| &both.0[..])),
-        lent_antenna2.after("antenna 2", frames.map(|both| &both.1[..])),
-    ];
-    let inputs = || {
-        let rooms = [room1, room2].map(room_in_words);
-        format!("data {}, antenna 1 {}, antenna 2 {}", shortened(data), rooms[0], rooms[1])
-    };
-    judge.compare("slt_pccpch_map", inputs, Answer::of(&expected), got, runs);
-    expected.ok().map(|both| [both.0, both.1])
+    let [first, second] = [0, 1].map(|antenna| expected.as_ref().ok().map(|both| &both[antenna][..]));
+    let mut lent = judge.given("data", data);
+    let mut antenna1 = judge.room("antenna 1", room1, first);
+    let mut antenna2 = judge.room("antenna 2", room2, second);
+    let got = ffi::pccpch_map(&mut lent, &mut antenna1, &mut antenna2);
+    let runs: [&dyn Judged; 3] = [&lent, &antenna1, &antenna2];
+    judge.compare("slt_pccpch_map", String::new, Answer::of(&expected), got, runs);
+    expected.ok()
 }
 
 /// Compares one read and answers the data, if the rules give them.
 fn read(judge: &mut Judge, antennas: [Option<&[u8]>; 2], room: Option<usize>) -> Option<Vec<u8>> {
     let [antenna1, antenna2] = antennas;
     let expected = rules::read(antenna1.unwrap_or(&[]), antenna2.unwrap_or(&[]), room.unwrap_or(0));
-    let mut lent_antenna1 = Lent::holding(antenna1, judge.salt());
-    let mut lent_antenna2 = Lent::holding(antenna2, judge.salt());
-    let mut lent_data = Lent::room(room, judge.salt());
-    let got = ffi::pccpch_read(&mut lent_antenna1, &mut lent_antenna2, &mut lent_data);
-    let runs = [
-        lent_antenna1.kept("antenna 1"),
-        lent_antenna2.kept("antenna 2"),
-        lent_data.after("data", expected.as_deref().ok()),
-    ];
-    let inputs = || {
-        let frames = antennas.map(shortened);
-        format!("antenna 1 {}, antenna 2 {}, data {}", frames[0], frames[1], room_in_words(room))
-    };
-    judge.compare("slt_pccpch_read", inputs, Answer::of(&expected), got, runs);
+    let mut lent1 = judge.given("antenna 1", antenna1);
+    let mut lent2 = judge.given("antenna 2", antenna2);
+    let mut data = judge.room("data", room, expected.as_deref().ok());
+    let got = ffi::pccpch_read(&mut lent1, &mut lent2, &mut data);
+    judge.compare("slt_pccpch_read", String::new, Answer::of(&expected), got, [&lent1, &lent2, &data]);
     expected.ok()
 }
 
@@ -93,8 +74,7 @@ fn some_data() -> Vec<Vec<u8>> {
 
 /// Good frames to start from: the rules' own.
 fn good_frames(data: &[u8]) -> [Vec<u8>; 2] {
-    let (antenna1, antenna2) = rules::map(data, FRAME, FRAME).expect("good data");
-    [antenna1, antenna2]
+    rules::map(data, FRAME, FRAME).expect("good data")
 }
 
 // Map

@@ -2,8 +2,7 @@
 
 use crate::answer::Answer;
 use crate::ffi;
-use crate::judge::{Judge, room_in_words, shortened};
-use crate::lent::Lent;
+use crate::judge::Judge;
 use crate::random::Random;
 use crate::rules::pich::{self as rules, FRAME, TAIL};
 
@@ -41,53 +40,32 @@ pub fn all(judge: &mut Judge) {
     }
     bad_np(judge);
     every_set_of_18(judge);
-    judge.must_have_seen("slt_pich_q", &[0, 8, 11]);
-    judge.must_have_seen("slt_pich_map", &[0, 3, 4, 8]);
-    judge.must_have_seen("slt_pich_read", &[0, 3, 4, 8, 9]);
 }
 
 // One call each, compared.
 
 fn q(judge: &mut Judge, np: usize, pi: usize, sfn: usize) {
-    let expected = match rules::q(np, pi, sfn) {
-        Ok(value) => Answer::done(value),
-        Err(refusal) => Answer::refused(refusal),
-    };
-    let got = ffi::pich_q(np, pi, sfn);
-    judge.compare("slt_pich_q", || format!("np {np}, pi {pi}, sfn {sfn}"), expected, got, []);
+    let expected = Answer::telling(&rules::q(np, pi, sfn), |q| *q);
+    judge.compare("slt_pich_q", || format!("np {np}, pi {pi}, sfn {sfn}"), expected, ffi::pich_q(np, pi, sfn), []);
 }
 
 /// Compares one map and answers the frame, if the rules give one.
 fn map(judge: &mut Judge, np: usize, indicators: Option<&[u8]>, room: Option<usize>) -> Option<Vec<u8>> {
     let expected = rules::map(np, indicators.unwrap_or(&[]), room.unwrap_or(0));
-    let mut lent_indicators = Lent::holding(indicators, judge.salt());
-    let mut lent_frame = Lent::room(room, judge.salt());
-    let got = ffi::pich_map(np, &mut lent_indicators, &mut lent_frame);
-    let frame = expected.as_deref().ok();
-    judge.compare(
-        "slt_pich_map",
-        || format!("np {np}, indicators {}, frame {}", shortened(indicators), room_in_words(room)),
-        Answer::of(&expected),
-        got,
-        [lent_indicators.kept("indicators"), lent_frame.after("frame", frame)],
-    );
+    let mut lent = judge.given("indicators", indicators);
+    let mut frame = judge.room("frame", room, expected.as_deref().ok());
+    let got = ffi::pich_map(np, &mut lent, &mut frame);
+    judge.compare("slt_pich_map", || format!("np {np}"), Answer::of(&expected), got, [&lent, &frame]);
     expected.ok()
 }
 
 /// Compares one read and answers the indicators, if the rules give them.
 fn read(judge: &mut Judge, np: usize, frame: Option<&[u8]>, room: Option<usize>) -> Option<Vec<u8>> {
     let expected = rules::read(np, frame.unwrap_or(&[]), room.unwrap_or(0));
-    let mut lent_frame = Lent::holding(frame, judge.salt());
-    let mut lent_indicators = Lent::room(room, judge.salt());
-    let got = ffi::pich_read(np, &mut lent_frame, &mut lent_indicators);
-    let indicators = expected.as_deref().ok();
-    judge.compare(
-        "slt_pich_read",
-        || format!("np {np}, frame {}, indicators {}", shortened(frame), room_in_words(room)),
-        Answer::of(&expected),
-        got,
-        [lent_frame.kept("frame"), lent_indicators.after("indicators", indicators)],
-    );
+    let mut lent = judge.given("frame", frame);
+    let mut indicators = judge.room("indicators", room, expected.as_deref().ok());
+    let got = ffi::pich_read(np, &mut lent, &mut indicators);
+    judge.compare("slt_pich_read", || format!("np {np}"), Answer::of(&expected), got, [&lent, &indicators]);
     expected.ok()
 }
 

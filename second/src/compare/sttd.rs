@@ -3,9 +3,8 @@
 use super::lengths;
 use crate::answer::Answer;
 use crate::ffi;
-use crate::judge::{Judge, room_in_words, shortened};
+use crate::judge::Judge;
 use crate::laws::{self, Kept, every_run};
-use crate::lent::Lent;
 use crate::random::Random;
 use crate::rules::sttd::{self as rules, VALUES};
 
@@ -25,8 +24,6 @@ pub fn all(judge: &mut Judge) {
     signatures_before_summing(judge);
     laws_of_digits(judge);
     laws_of_values(judge);
-    judge.must_have_seen("slt_sttd_digits", &[0, 3, 4]);
-    judge.must_have_seen("slt_sttd_values", &[0, 3, 11]);
 }
 
 // One call each, compared.
@@ -34,33 +31,21 @@ pub fn all(judge: &mut Judge) {
 /// Compares one call and answers what the library left in the output.
 fn digits(judge: &mut Judge, input: Option<&[u8]>, room: Option<usize>) -> Vec<u8> {
     let expected = rules::digits(input.unwrap_or(&[]), room.unwrap_or(0));
-    let mut lent_input = Lent::holding(input, judge.salt());
-    let mut lent_out = Lent::room(room, judge.salt());
-    let got = ffi::sttd_digits(&mut lent_input, &mut lent_out);
-    judge.compare(
-        "slt_sttd_digits",
-        || format!("in {}, out {}", shortened(input), room_in_words(room)),
-        Answer::of(&expected),
-        got,
-        [lent_input.kept("in"), lent_out.after("out", expected.as_deref().ok())],
-    );
-    lent_out.run().to_vec()
+    let mut lent = judge.given("in", input);
+    let mut out = judge.room("out", room, expected.as_deref().ok());
+    let got = ffi::sttd_digits(&mut lent, &mut out);
+    judge.compare("slt_sttd_digits", String::new, Answer::of(&expected), got, [&lent, &out]);
+    out.run().to_vec()
 }
 
 /// Compares one call and answers what the library left in the output, if the rules take the input.
 fn values(judge: &mut Judge, input: Option<&[i32]>, room: Option<usize>) -> Option<Vec<i32>> {
     let expected = rules::values(input.unwrap_or(&[]), room.unwrap_or(0));
-    let mut lent_input = Lent::holding(input, judge.salt());
-    let mut lent_out = Lent::room(room, judge.salt());
-    let got = ffi::sttd_values(&mut lent_input, &mut lent_out);
-    judge.compare(
-        "slt_sttd_values",
-        || format!("in {}, out {}", shortened(input), room_in_words(room)),
-        Answer::of(&expected),
-        got,
-        [lent_input.kept("in"), lent_out.after("out", expected.as_deref().ok())],
-    );
-    expected.ok().map(|_| lent_out.run().to_vec())
+    let mut lent = judge.given("in", input);
+    let mut out = judge.room("out", room, expected.as_deref().ok());
+    let got = ffi::sttd_values(&mut lent, &mut out);
+    judge.compare("slt_sttd_values", String::new, Answer::of(&expected), got, [&lent, &out]);
+    expected.is_ok().then(|| out.run().to_vec())
 }
 
 // Digits

@@ -2,8 +2,7 @@
 
 use crate::answer::{Answer, Refusal};
 use crate::ffi;
-use crate::judge::{Judge, shortened};
-use crate::lent::Lent;
+use crate::judge::Judge;
 use crate::random::Random;
 use crate::rules::pich::{self, FRAME, TAIL};
 use crate::rules::wake::{self as rules, FULL, Tally};
@@ -34,8 +33,6 @@ pub fn all(judge: &mut Judge) {
     wrong_numbers(judge);
     wrong_lengths(judge);
     two_runs(judge);
-    judge.must_have_seen("slt_wake_run", &[0, 3, 4, 8, 9, 11, 32]);
-    judge.must_have_seen("slt_wake_step", &[0, 3, 4, 8, 9, 11, 32]);
 }
 
 // One call each, compared.
@@ -43,42 +40,25 @@ pub fn all(judge: &mut Judge) {
 /// Compares one run, and answers the tally that it leaves and what it answers.
 fn run(judge: &mut Judge, np: usize, pi: usize, frames: Option<&[u8]>, first: Tally) -> (Result<(), Refusal>, Tally) {
     let (expected, after) = rules::run(np, pi, frames.unwrap_or(&[]), first);
-    let mut lent_frames = Lent::holding(frames, judge.salt());
-    let [mut read, mut woke, mut next] =
-        [first.read, first.woke, first.next_sfn].map(|number| Lent::holding(Some(&[number]), judge.salt()));
-    let got = ffi::wake_run(np, pi, &mut lent_frames, [&mut read, &mut woke, &mut next]);
-    judge.compare(
-        "slt_wake_run",
-        || {
-            let digits = frames.map_or(0, <[u8]>::len);
-            format!("np {np}, pi {pi}, {first:?}, {digits} digits, {}", shortened(frames))
-        },
-        Answer::of(&expected),
-        got,
-        [
-            lent_frames.kept("frames"),
-            read.holds("read", &[after.read]),
-            woke.holds("woke", &[after.woke]),
-            next.holds("next SFN", &[after.next_sfn]),
-        ],
-    );
+    let mut lent = judge.given("frames", frames);
+    let due = [[after.read], [after.woke], [after.next_sfn]];
+    let mut read = judge.changed("read", Some(&[first.read]), Some(&due[0]));
+    let mut woke = judge.changed("woke", Some(&[first.woke]), Some(&due[1]));
+    let mut next = judge.changed("next SFN", Some(&[first.next_sfn]), Some(&due[2]));
+    let got = ffi::wake_run(np, pi, &mut lent, [&mut read, &mut woke, &mut next]);
+    let numbers = || format!("np {np}, pi {pi}");
+    judge.compare("slt_wake_run", numbers, Answer::of(&expected), got, [&lent, &read, &woke, &next]);
     (expected, after)
 }
 
 /// Compares one step, and answers the tally after it, or the refusal.
 fn step(judge: &mut Judge, np: usize, pi: usize, frame: Option<&[u8]>, tally: Tally) -> Result<Tally, Refusal> {
     let expected = rules::step(np, pi, frame.unwrap_or(&[]), tally);
-    let after = expected.unwrap_or(tally);
-    let mut lent_frame = Lent::holding(frame, judge.salt());
-    let mut lent_tally = Lent::holding(Some(&[tally.read, tally.woke, tally.next_sfn]), judge.salt());
-    let got = ffi::wake_step(&mut lent_tally, np, pi, &mut lent_frame);
-    judge.compare(
-        "slt_wake_step",
-        || format!("np {np}, pi {pi}, {tally:?}, {}", shortened(frame)),
-        Answer::of(&expected),
-        got,
-        [lent_frame.kept("frame"), lent_tally.holds("tally", &[after.read, after.woke, after.next_sfn])],
-    );
+    let [before, after] = [tally, expected.unwrap_or(tally)].map(|tally| [tally.read, tally.woke, tally.next_sfn]);
+    let mut lent = judge.given("frame", frame);
+    let mut tally = judge.changed("tally", Some(&before), Some(&after));
+    let got = ffi::wake_step(&mut tally, np, pi, &mut lent);
+    judge.compare("slt_wake_step", || format!("np {np}, pi {pi}"), Answer::of(&expected), got, [&lent, &tally]);
     expected
 }
 

@@ -1,6 +1,7 @@
 //! AICH.
 
 use crate::answer::{Refusal, refuse};
+use crate::rules::checks;
 
 pub const SIGNATURES: usize = 16;
 pub const VALUES: usize = 32;
@@ -19,17 +20,8 @@ fn mapped(indicators: &[i32]) -> Vec<i32> {
 
 /// 3 (indicators, values), 11 at the index.
 pub fn map(indicators: &[i32], n_values: usize) -> Result<Vec<i32>, Refusal> {
-    if indicators.len() != SIGNATURES {
-        return refuse(3, 0);
-    }
-    if n_values != VALUES {
-        return refuse(3, 1);
-    }
-    for s in 0..SIGNATURES {
-        if indicators[s] < -1 || indicators[s] > 1 {
-            return refuse(11, s);
-        }
-    }
+    checks::lengths(&[(indicators.len(), SIGNATURES), (n_values, VALUES)])?;
+    checks::range(indicators, 1, 0)?;
     Ok(mapped(indicators))
 }
 
@@ -39,12 +31,7 @@ pub fn map(indicators: &[i32], n_values: usize) -> Result<Vec<i32>, Refusal> {
 /// agree as often as they differ. But values that no indicators give have correlations too, so what the indicators
 /// give is worked out and compared.
 pub fn read(values: &[i32], n_indicators: usize) -> Result<Vec<i32>, Refusal> {
-    if values.len() != VALUES {
-        return refuse(3, 0);
-    }
-    if n_indicators != SIGNATURES {
-        return refuse(3, 1);
-    }
+    checks::lengths(&[(values.len(), VALUES), (n_indicators, SIGNATURES)])?;
     let mut indicators = Vec::new();
     for s in 0..SIGNATURES {
         let correlation: i64 = (0..VALUES).map(|j| i64::from(values[j]) * b(s, j)).sum();

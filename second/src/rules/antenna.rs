@@ -2,7 +2,7 @@
 
 use crate::answer::{Refusal, refuse};
 use crate::rules::dpch::{self, Fields};
-use crate::rules::sttd;
+use crate::rules::{checks, sttd};
 
 /// Table 14, a row a slot: the patterns of 2, 4, 8 and 16 bits, symbol by symbol.
 const TABLE_14: [[&str; 4]; 15] = [
@@ -63,9 +63,7 @@ pub struct Given<'a> {
 pub fn map(given: &Given) -> Result<Vec<u8>, Refusal> {
     let [number, slot, antenna, tpc] = given.numbers;
     dpch::format(number)?;
-    if slot > 14 {
-        return refuse(2, 0);
-    }
+    checks::slot(slot)?;
     if antenna > 1 {
         return refuse(11, 0);
     }
@@ -79,30 +77,14 @@ pub fn read(
     number: usize, slot: usize, first: &[u8], other: &[u8], n_data: usize, n_tfci: usize,
 ) -> Result<Fields, Refusal> {
     let format = dpch::format(number)?;
-    if slot > 14 {
-        return refuse(2, 0);
-    }
-    let right = [
-        first.len() == format.slot,
-        other.len() == format.slot,
-        n_data == format.data(),
-        n_tfci == format.tfci,
-    ];
-    for run in 0..4 {
-        if !right[run] {
-            return refuse(3, run);
-        }
-    }
-    dpch::check_digits(first, 0)?;
-    dpch::check_digits(other, format.slot)?;
-    let fields = dpch::read_slot(&format, slot, first, 0)?;
+    checks::slot(slot)?;
+    let (data, tfci) = ((n_data, format.data()), (n_tfci, format.tfci));
+    checks::lengths(&[(first.len(), format.slot), (other.len(), format.slot), data, tfci])?;
+    checks::digits(first, 2, 0)?;
+    checks::digits(other, 2, format.slot)?;
+    let fields = dpch::read_slot(&format, &dpch::pilot(format.pilot, slot), first, 0)?;
     let sent = dpch::mapped(&format, slot, fields.tpc, &fields.data, &fields.tfci);
-    let implied = second(number, slot, &sent);
-    for index in 0..format.slot {
-        if other[index] != implied[index] {
-            return refuse(9, format.slot + index);
-        }
-    }
+    checks::same(9, other, &second(number, slot, &sent), format.slot)?;
     Ok(fields)
 }
 

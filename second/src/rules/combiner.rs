@@ -2,6 +2,7 @@
 
 use crate::answer::{Refusal, refuse};
 use crate::rules::aich::{SIGNATURES, VALUES, b};
+use crate::rules::checks;
 
 /// Gain parts: -4096 to 4096.
 pub const GAIN_LIMIT: i64 = 4096;
@@ -65,22 +66,9 @@ pub fn combined(h1: Complex, h2: Complex, received: &[i128]) -> Vec<i128> {
 /// 3 (received, results), 11 (h1 real, h1 imaginary, h2 real, h2 imaginary as places 0 to 3, received part i at
 /// 4 + i), 12 where both gains are zero.
 pub fn combine(gains: [i64; 4], received: &[i32], n_results: usize) -> Result<Vec<i64>, Refusal> {
-    if received.len() != VALUES {
-        return refuse(3, 0);
-    }
-    if n_results != SIGNATURES {
-        return refuse(3, 1);
-    }
-    for place in 0..4 {
-        if gains[place] < -GAIN_LIMIT || gains[place] > GAIN_LIMIT {
-            return refuse(11, place);
-        }
-    }
-    for i in 0..VALUES {
-        if received[i] < -RECEIVED_LIMIT || received[i] > RECEIVED_LIMIT {
-            return refuse(11, 4 + i);
-        }
-    }
+    checks::lengths(&[(received.len(), VALUES), (n_results, SIGNATURES)])?;
+    checks::range(&gains, GAIN_LIMIT, 0)?;
+    checks::range(received, RECEIVED_LIMIT.into(), 4)?;
     if gains == [0; 4] {
         return refuse(12, 0);
     }

@@ -1,7 +1,8 @@
 //! The compressed frame of the downlink DPCH: fifteen slots of a format A or B, of which a run is missing.
 
 use crate::answer::{Refusal, refuse};
-use crate::rules::dpch::{self, Format};
+use crate::rules::checks;
+use crate::rules::dpch::{self, Control, Format};
 use crate::rules::frame::{Fields, SLOTS};
 
 const DTX: u8 = 2;
@@ -95,14 +96,9 @@ fn commanded(format: &Format, kind: usize, tpc: u8) -> Vec<u8> {
 }
 
 /// The digits of a transmitted slot. All checks have passed.
-fn mapped(format: &Format, kind: usize, slot: usize, tpc: u8, data: &[u8], tfci: &[u8]) -> Vec<u8> {
-    let mut run = data[..format.data1].to_vec();
-    run.extend(commanded(format, kind, tpc));
-    run.extend_from_slice(tfci);
-    run.extend_from_slice(&data[format.data1..]);
-    run.extend(pilot(format, kind, slot));
-    assert_eq!(run.len(), format.slot, "the five fields fill the slot exactly");
-    run
+fn mapped(format: &Format, kind: usize, slot: usize, fields: &dpch::Fields) -> Vec<u8> {
+    let control = Control { tpc: commanded(format, kind, fields.tpc), pilot: pilot(format, kind, slot) };
+    dpch::filled(format, &control, &fields.data, &fields.tfci)
 }
 
 /// What a map is given beside its runs.
@@ -118,32 +114,14 @@ pub struct Frame {
 /// TFCI 4 and 6, data 4; places index the whole runs.
 pub fn map(of: Frame, data: &[u8], tfci: &[u8], n_out: usize, commands: &[u8]) -> Result<Vec<u8>, Refusal> {
     let format = format(of.format, of.kind)?;
-    let gap = gap(of.first, of.missing)?;
-    let sent = transmitted(&gap);
-    if data.len() != sent.len() * format.data() {
-        return refuse(3, 0);
-    }
-    if tfci.len() != sent.len() * format.tfci {
-        return refuse(3, 1);
-    }
-    if n_out != SLOTS * format.slot {
-        return refuse(3, 2);
-    }
-    if commands.len() != sent.len() {
-        return refuse(3, 3);
-    }
+    let sent = transmitted(&gap(of.first, of.missing)?);
+    let (data, tfci, commands) = (data.to_vec(), tfci.to_vec(), commands.to_vec());
+    let (out, all) = ((n_out, SLOTS * format.slot), (commands.len(), sent.len()));
+    checks::lengths(&[(data.len(), sent.len() * format.data()), (tfci.len(), sent.len() * format.tfci), out, all])?;
+    let given = Fields { data, tfci, commands };
     let mut frame = vec![DTX; n_out];
     for (index, slot) in sent.into_iter().enumerate() {
-        let (data_from, tfci_from) = (index * format.data(), index * format.tfci);
-        let data = &data[data_from..data_from + format.data()];
-        let tfci = &tfci[tfci_from..tfci_from + format.tfci];
-        if commands[index] > 1 {
-            return refuse(5, index);
-        }
-        dpch::check_digits(tfci, tfci_from)?;
-        dpch::check_tfci(tfci, tfci_from)?;
-        dpch::check_digits(data, data_from)?;
-        let digits = mapped(&format, of.kind, slot, commands[index], data, tfci);
+        let digits = mapped(&format, of.kind, slot, &given.of_slot(&format, index)?);
         frame[slot * format.slot..(slot + 1) * format.slot].copy_from_slice(&digits);
     }
     Ok(frame)
@@ -151,62 +129,26 @@ pub fn map(of: Frame, data: &[u8], tfci: &[u8], n_out: usize, commands: &[u8]) -
 
 /// The digits of a missing slot that begins at `from`: 4 above 2, then 9 at the first digit other than DTX.
 fn read_missing(run: &[u8], from: usize) -> Result<(), Refusal> {
-    dpch::check_digits(run, from)?;
-    match run.iter().position(|digit| *digit != DTX) {
-        Some(index) => refuse(9, from + index),
-        None => Ok(()),
-    }
-}
-
-/// The digits of a transmitted slot that begins at `from`: 4, 5, 6, 7.
-fn read_slot(format: &Format, kind: usize, slot: usize, run: &[u8], from: usize) -> Result<dpch::Fields, Refusal> {
-    dpch::check_digits(run, from)?;
-    let tpc = &run[format.tpc_at()..format.tfci_at()];
-    let tfci = &run[format.tfci_at()..format.data2_at()];
-    for index in 0..tpc.len() {
-        if tpc[index] == DTX || tpc[index] != tpc[0] {
-            return refuse(5, from + format.tpc_at() + index);
-        }
-    }
-    dpch::check_tfci(tfci, from + format.tfci_at())?;
-    for (index, bit) in pilot(format, kind, slot).into_iter().enumerate() {
-        if run[format.pilot_at() + index] != bit {
-            return refuse(7, from + format.pilot_at() + index);
-        }
-    }
-    let data = [&run[..format.data1], &run[format.data2_at()..format.pilot_at()]].concat();
-    Ok(dpch::Fields { tpc: tpc[0], data, tfci: tfci.to_vec() })
+    checks::digits(run, 2, from)?;
+    checks::first_bad(9, from, run, |digit| *digit != DTX)
 }
 
 /// Read: 1, 27, 3 (frame, data, TFCI, commands), then slot by slot, missing or not; places index the frame.
 pub fn read(of: Frame, frame: &[u8], n_data: usize, n_tfci: usize, n_commands: usize) -> Result<Fields, Refusal> {
     let format = format(of.format, of.kind)?;
     let gap = gap(of.first, of.missing)?;
-    let sent = transmitted(&gap);
-    if frame.len() != SLOTS * format.slot {
-        return refuse(3, 0);
-    }
-    if n_data != sent.len() * format.data() {
-        return refuse(3, 1);
-    }
-    if n_tfci != sent.len() * format.tfci {
-        return refuse(3, 2);
-    }
-    if n_commands != sent.len() {
-        return refuse(3, 3);
-    }
-    let mut all = Fields::default();
+    let sent = transmitted(&gap).len();
+    let (run, all) = ((frame.len(), SLOTS * format.slot), (n_commands, sent));
+    checks::lengths(&[run, (n_data, sent * format.data()), (n_tfci, sent * format.tfci), all])?;
+    let mut fields = Fields::default();
     for slot in 0..SLOTS {
         let from = slot * format.slot;
         let run = &frame[from..from + format.slot];
         if gap.contains(&slot) {
             read_missing(run, from)?;
-            continue;
+        } else {
+            fields.extend(dpch::read_slot(&format, &pilot(&format, of.kind, slot), run, from)?);
         }
-        let fields = read_slot(&format, of.kind, slot, run, from)?;
-        all.data.extend(fields.data);
-        all.tfci.extend(fields.tfci);
-        all.commands.push(fields.tpc);
     }
-    Ok(all)
+    Ok(fields)
 }

@@ -1,7 +1,8 @@
 //! The random access desk.
 
-use super::aich::{self, SIGNATURES, VALUES};
 use crate::answer::{Refusal, refuse};
+use crate::rules::aich::{self, SIGNATURES, VALUES};
+use crate::rules::checks;
 
 /// What a fresh desk holds.
 pub const FRESH: usize = 15;
@@ -36,9 +37,7 @@ pub fn slot(last: usize, heard: u16, available: u16, n: usize) -> Slot {
 
 /// 3, 11 at place 0 (n), 11 at place 2 (the desk). The values, and the desk afterwards.
 pub fn serve(last: usize, heard: u16, available: u16, n: usize, n_values: usize) -> Result<(Vec<i32>, usize), Refusal> {
-    if n_values != VALUES {
-        return refuse(3, 0);
-    }
+    checks::lengths(&[(n_values, VALUES)])?;
     if !(1..=16).contains(&n) {
         return refuse(11, 0);
     }

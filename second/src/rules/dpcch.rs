@@ -1,6 +1,7 @@
 //! The uplink DPCCH: slots, and frames of slots 0 to 14 with 15 commands.
 
 use crate::answer::{Refusal, refuse};
+use crate::rules::checks;
 
 pub const SLOTS: usize = 15;
 
@@ -63,6 +64,12 @@ pub struct FrameFields {
     pub commands: Vec<u8>,
 }
 
+impl From<FrameFields> for [Vec<u8>; 3] {
+    fn from(fields: FrameFields) -> [Vec<u8>; 3] {
+        [fields.tfci, fields.fbi, fields.commands]
+    }
+}
+
 /// 1: format above 3.
 pub fn format(number: usize) -> Result<Format, Refusal> {
     if number > 3 {
@@ -78,27 +85,6 @@ pub fn pilot(bits: usize, slot: usize) -> Vec<u8> {
     text.bytes().map(|letter| letter - b'0').collect()
 }
 
-/// 2: slot number above 14.
-fn check_slot(slot: usize) -> Result<(), Refusal> {
-    if slot > 14 { refuse(2, 0) } else { Ok(()) }
-}
-
-/// 3: the first run that has not the length it should have, told by its number.
-fn check_lengths(pairs: &[(usize, usize)]) -> Result<(), Refusal> {
-    match pairs.iter().position(|(length, right)| length != right) {
-        Some(run) => refuse(3, run),
-        None => Ok(()),
-    }
-}
-
-/// 4: a digit above 1. The run begins at index `from` of what the places count in.
-fn check_bits(run: &[u8], from: usize) -> Result<(), Refusal> {
-    match run.iter().position(|digit| *digit > 1) {
-        Some(index) => refuse(4, from + index),
-        None => Ok(()),
-    }
-}
-
 /// The fields one after the other. All checks have passed.
 pub fn mapped(format: &Format, slot: usize, fields: &Fields) -> Vec<u8> {
     let run = [&pilot(format.pilot, slot)[..], &fields.tfci, &fields.fbi, &[fields.tpc, fields.tpc]].concat();
@@ -109,40 +95,31 @@ pub fn mapped(format: &Format, slot: usize, fields: &Fields) -> Vec<u8> {
 /// Map order: 1, 2, 3 (TFCI, FBI, output), 5, TFCI 4, FBI 4.
 pub fn map(number: usize, slot: usize, tpc: usize, tfci: &[u8], fbi: &[u8], n_out: usize) -> Result<Vec<u8>, Refusal> {
     let format = format(number)?;
-    check_slot(slot)?;
-    check_lengths(&[(tfci.len(), format.tfci), (fbi.len(), format.fbi), (n_out, SLOT)])?;
+    checks::slot(slot)?;
+    checks::lengths(&[(tfci.len(), format.tfci), (fbi.len(), format.fbi), (n_out, SLOT)])?;
     if tpc > 1 {
         return refuse(5, 0);
     }
-    check_bits(tfci, 0)?;
-    check_bits(fbi, 0)?;
+    checks::digits(tfci, 1, 0)?;
+    checks::digits(fbi, 1, 0)?;
     Ok(mapped(&format, slot, &Fields { tpc: tpc as u8, tfci: tfci.to_vec(), fbi: fbi.to_vec() }))
 }
 
 /// Read order: 1, 2, 3 (slot, TFCI, FBI), then the digits.
 pub fn read(number: usize, slot: usize, run: &[u8], n_tfci: usize, n_fbi: usize) -> Result<Fields, Refusal> {
     let format = format(number)?;
-    check_slot(slot)?;
-    check_lengths(&[(run.len(), SLOT), (n_tfci, format.tfci), (n_fbi, format.fbi)])?;
+    checks::slot(slot)?;
+    checks::lengths(&[(run.len(), SLOT), (n_tfci, format.tfci), (n_fbi, format.fbi)])?;
     read_slot(&format, slot, run, 0)
 }
 
 /// The digits of one slot that begins at index `from`: 4 above 1 anywhere, 5 (first TPC digit unlike the first), 7 (first
 /// pilot digit that differs).
 fn read_slot(format: &Format, slot: usize, run: &[u8], from: usize) -> Result<Fields, Refusal> {
-    check_bits(run, from)?;
+    checks::digits(run, 1, from)?;
     let tpc = &run[format.tpc_at()..];
-    for index in 0..tpc.len() {
-        if tpc[index] != tpc[0] {
-            return refuse(5, from + format.tpc_at() + index);
-        }
-    }
-    let table = pilot(format.pilot, slot);
-    for index in 0..table.len() {
-        if run[index] != table[index] {
-            return refuse(7, from + index);
-        }
-    }
+    checks::first_bad(5, from + format.tpc_at(), tpc, |digit| *digit != tpc[0])?;
+    checks::same(7, &run[..format.pilot], &pilot(format.pilot, slot), from)?;
     let tfci = run[format.tfci_at()..format.fbi_at()].to_vec();
     Ok(Fields { tpc: tpc[0], tfci, fbi: run[format.fbi_at()..format.tpc_at()].to_vec() })
 }
@@ -151,7 +128,7 @@ fn read_slot(format: &Format, slot: usize, run: &[u8], from: usize) -> Result<Fi
 pub fn frame_map(number: usize, tfci: &[u8], fbi: &[u8], n_out: usize, commands: &[u8]) -> Result<Vec<u8>, Refusal> {
     let format = format(number)?;
     let (all_tfci, all_fbi) = (SLOTS * format.tfci, SLOTS * format.fbi);
-    check_lengths(&[(tfci.len(), all_tfci), (fbi.len(), all_fbi), (n_out, SLOTS * SLOT), (commands.len(), SLOTS)])?;
+    checks::lengths(&[(tfci.len(), all_tfci), (fbi.len(), all_fbi), (n_out, SLOTS * SLOT), (commands.len(), SLOTS)])?;
     let mut frame = Vec::new();
     for slot in 0..SLOTS {
         let (tfci_from, fbi_from) = (slot * format.tfci, slot * format.fbi);
@@ -160,8 +137,8 @@ pub fn frame_map(number: usize, tfci: &[u8], fbi: &[u8], n_out: usize, commands:
         if tpc > 1 {
             return refuse(5, slot);
         }
-        check_bits(tfci, tfci_from)?;
-        check_bits(fbi, fbi_from)?;
+        checks::digits(tfci, 1, tfci_from)?;
+        checks::digits(fbi, 1, fbi_from)?;
         frame.extend(mapped(&format, slot, &Fields { tpc, tfci: tfci.to_vec(), fbi: fbi.to_vec() }));
     }
     Ok(frame)
@@ -173,7 +150,7 @@ pub fn frame_read(
 ) -> Result<FrameFields, Refusal> {
     let format = format(number)?;
     let (all_tfci, all_fbi) = (SLOTS * format.tfci, SLOTS * format.fbi);
-    check_lengths(&[(frame.len(), SLOTS * SLOT), (n_tfci, all_tfci), (n_fbi, all_fbi), (n_commands, SLOTS)])?;
+    checks::lengths(&[(frame.len(), SLOTS * SLOT), (n_tfci, all_tfci), (n_fbi, all_fbi), (n_commands, SLOTS)])?;
     let mut all = FrameFields::default();
     for slot in 0..SLOTS {
         let from = slot * SLOT;

@@ -1,6 +1,7 @@
 //! The downlink DPCH slot.
 
 use crate::answer::{Refusal, refuse};
+use crate::rules::checks;
 
 const DTX: u8 = 2;
 
@@ -108,40 +109,34 @@ pub fn pilot(bits: usize, slot: usize) -> Vec<u8> {
     symbols.flat_map(|number| symbol(number, slot)).collect()
 }
 
-/// 2: slot number above 14.
-fn check_slot(slot: usize) -> Result<(), Refusal> {
-    if slot > 14 { refuse(2, 0) } else { Ok(()) }
-}
-
-/// 4: a digit above 2. The run begins at index `from` of what the places count in.
-pub fn check_digits(run: &[u8], from: usize) -> Result<(), Refusal> {
-    match run.iter().position(|digit| *digit > 2) {
-        Some(index) => refuse(4, from + index),
-        None => Ok(()),
-    }
-}
-
 /// 6: a TFCI field is all bits or all DTX, in every format that has one. A mixed field is told at the first digit whose
 /// kind (DTX or not) differs from the first TFCI digit's.
-pub fn check_tfci(tfci: &[u8], from: usize) -> Result<(), Refusal> {
-    for index in 0..tfci.len() {
-        let is_dtx = tfci[index] == DTX;
-        let first_is_dtx = tfci[0] == DTX;
-        if is_dtx != first_is_dtx {
-            return refuse(6, from + index);
-        }
-    }
-    Ok(())
+fn check_tfci(tfci: &[u8], from: usize) -> Result<(), Refusal> {
+    checks::first_bad(6, from, tfci, |digit| (*digit == DTX) != (tfci[0] == DTX))
+}
+
+/// What a slot is given: TFCI 4 and 6, then data 4; each run begins at its own index of what the places count in.
+pub fn check_fields(tfci: &[u8], tfci_from: usize, data: &[u8], data_from: usize) -> Result<(), Refusal> {
+    checks::digits(tfci, 2, tfci_from)?;
+    check_tfci(tfci, tfci_from)?;
+    checks::digits(data, 2, data_from)
+}
+
+/// The digits of a slot's TPC field and of its pilot.
+pub struct Control {
+    pub tpc: Vec<u8>,
+    pub pilot: Vec<u8>,
 }
 
 /// The fields one after the other, each in its own stretch. All checks have passed.
 pub fn mapped(format: &Format, slot: usize, tpc: u8, data: &[u8], tfci: &[u8]) -> Vec<u8> {
-    let mut run = Vec::new();
-    run.extend_from_slice(&data[..format.data1]);
-    run.extend(vec![tpc; format.tpc]);
-    run.extend_from_slice(tfci);
-    run.extend_from_slice(&data[format.data1..]);
-    run.extend(pilot(format.pilot, slot));
+    filled(format, &Control { tpc: vec![tpc; format.tpc], pilot: pilot(format.pilot, slot) }, data, tfci)
+}
+
+/// The same, whatever the digits of TPC and pilot are.
+pub fn filled(format: &Format, control: &Control, data: &[u8], tfci: &[u8]) -> Vec<u8> {
+    let (data1, data2) = data.split_at(format.data1);
+    let run = [data1, &control.tpc, tfci, data2, &control.pilot].concat();
     assert_eq!(run.len(), format.slot, "the five fields fill the slot exactly");
     run
 }
@@ -149,59 +144,32 @@ pub fn mapped(format: &Format, slot: usize, tpc: u8, data: &[u8], tfci: &[u8]) -
 /// Map order: 1, 2, 3 (data, TFCI, output), 5, then TFCI: 4, 6; then data 4.
 pub fn map(number: usize, slot: usize, tpc: usize, data: &[u8], tfci: &[u8], n_out: usize) -> Result<Vec<u8>, Refusal> {
     let format = format(number)?;
-    check_slot(slot)?;
-    if data.len() != format.data() {
-        return refuse(3, 0);
-    }
-    if tfci.len() != format.tfci {
-        return refuse(3, 1);
-    }
-    if n_out != format.slot {
-        return refuse(3, 2);
-    }
+    checks::slot(slot)?;
+    checks::lengths(&[(data.len(), format.data()), (tfci.len(), format.tfci), (n_out, format.slot)])?;
     if tpc > 1 {
         return refuse(5, 0);
     }
-    check_digits(tfci, 0)?;
-    check_tfci(tfci, 0)?;
-    check_digits(data, 0)?;
+    check_fields(tfci, 0, data, 0)?;
     Ok(mapped(&format, slot, tpc as u8, data, tfci))
 }
 
 /// Read order: 1, 2, 3 (slot, data, TFCI), then the digits.
 pub fn read(number: usize, slot: usize, run: &[u8], n_data: usize, n_tfci: usize) -> Result<Fields, Refusal> {
     let format = format(number)?;
-    check_slot(slot)?;
-    if run.len() != format.slot {
-        return refuse(3, 0);
-    }
-    if n_data != format.data() {
-        return refuse(3, 1);
-    }
-    if n_tfci != format.tfci {
-        return refuse(3, 2);
-    }
-    read_slot(&format, slot, run, 0)
+    checks::slot(slot)?;
+    checks::lengths(&[(run.len(), format.slot), (n_data, format.data()), (n_tfci, format.tfci)])?;
+    read_slot(&format, &pilot(format.pilot, slot), run, 0)
 }
 
 /// The digits of one slot that begins at index `from`: 4 above 2, 5 (first TPC digit that is DTX or unlike the
-/// first), 6, 7 (first pilot digit that differs).
-pub fn read_slot(format: &Format, slot: usize, run: &[u8], from: usize) -> Result<Fields, Refusal> {
-    check_digits(run, from)?;
+/// first), 6, 7 (first digit that differs from the slot's pilot).
+pub fn read_slot(format: &Format, pilot: &[u8], run: &[u8], from: usize) -> Result<Fields, Refusal> {
+    checks::digits(run, 2, from)?;
     let tpc = &run[format.tpc_at()..format.tfci_at()];
     let tfci = &run[format.tfci_at()..format.data2_at()];
-    for index in 0..tpc.len() {
-        if tpc[index] == DTX || tpc[index] != tpc[0] {
-            return refuse(5, from + format.tpc_at() + index);
-        }
-    }
+    checks::first_bad(5, from + format.tpc_at(), tpc, |digit| *digit == DTX || *digit != tpc[0])?;
     check_tfci(tfci, from + format.tfci_at())?;
-    let table = pilot(format.pilot, slot);
-    for index in 0..table.len() {
-        if run[format.pilot_at() + index] != table[index] {
-            return refuse(7, from + format.pilot_at() + index);
-        }
-    }
+    checks::same(7, &run[format.pilot_at()..], pilot, from + format.pilot_at())?;
     let data1 = &run[..format.data1];
     let data2 = &run[format.data2_at()..format.pilot_at()];
     Ok(Fields { tpc: tpc[0], data: [data1, data2].concat(), tfci: tfci.to_vec() })

@@ -1,6 +1,7 @@
 //! The uplink DPDCH: a slot is its data, a frame fifteen slots, and there is no slot number.
 
 use crate::answer::{Refusal, refuse};
+use crate::rules::checks;
 
 /// Data digits of a slot, one number a format.
 const SLOT: [usize; 7] = [10, 20, 40, 80, 160, 320, 640];
@@ -17,17 +18,8 @@ pub fn slot_length(number: usize) -> Result<usize, Refusal> {
 /// written), 4 above 1. Slots and their data are the same digits, so mapping and reading are alike.
 pub fn carry(number: usize, slots: usize, given: &[u8], n_to: usize) -> Result<Vec<u8>, Refusal> {
     let length = slots * slot_length(number)?;
-    if given.len() != length {
-        return refuse(3, 0);
-    }
-    if n_to != length {
-        return refuse(3, 1);
-    }
-    for index in 0..length {
-        if given[index] > 1 {
-            return refuse(4, index);
-        }
-    }
+    checks::lengths(&[(given.len(), length), (n_to, length)])?;
+    checks::digits(given, 1, 0)?;
     Ok(given.to_vec())
 }
 

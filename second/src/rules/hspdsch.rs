@@ -2,6 +2,7 @@
 //! sends -conj(S2), conj(S1) where antenna 1 sends S1, S2.
 
 use crate::answer::{Refusal, refuse};
+use crate::rules::checks;
 use std::sync::OnceLock;
 
 /// Formats 0 and 1.
@@ -90,41 +91,23 @@ fn head(format: usize, lengths: [usize; 3]) -> Result<(), Refusal> {
     if format >= FORMATS {
         return refuse(1, 0);
     }
-    for (run, length) in lengths.iter().enumerate() {
-        if *length != size(format) {
-            return refuse(3, run);
-        }
-    }
-    Ok(())
-}
-
-/// 4 at the first digit above 1; places count from `base`.
-fn bits(run: &[u8], base: usize) -> Result<(), Refusal> {
-    match run.iter().position(|digit| *digit > 1) {
-        Some(index) => refuse(4, base + index),
-        None => Ok(()),
-    }
+    checks::lengths(&lengths.map(|length| (length, size(format))))
 }
 
 /// 1, 3 (data, antenna 1, antenna 2), 4 above 1. Answers the subframes of both antennas.
-pub fn map(format: usize, data: &[u8], n_antenna1: usize, n_antenna2: usize) -> Result<(Vec<u8>, Vec<u8>), Refusal> {
+pub fn map(format: usize, data: &[u8], n_antenna1: usize, n_antenna2: usize) -> Result<[Vec<u8>; 2], Refusal> {
     head(format, [data.len(), n_antenna1, n_antenna2])?;
-    bits(data, 0)?;
-    Ok((data.to_vec(), second(format, data)))
+    checks::digits(data, 1, 0)?;
+    Ok([data.to_vec(), second(format, data)])
 }
 
 /// 1, 3 (antenna 1, antenna 2, data), 4 above 1, 9 where antenna 2 first differs from what antenna 1 gives. Antenna 2's
 /// places start at the subframe's length.
 pub fn read(format: usize, antenna1: &[u8], antenna2: &[u8], n_data: usize) -> Result<Vec<u8>, Refusal> {
     head(format, [antenna1.len(), antenna2.len(), n_data])?;
-    bits(antenna1, 0)?;
-    bits(antenna2, size(format))?;
-    let given = second(format, antenna1);
-    for index in 0..given.len() {
-        if antenna2[index] != given[index] {
-            return refuse(9, size(format) + index);
-        }
-    }
+    checks::digits(antenna1, 1, 0)?;
+    checks::digits(antenna2, 1, size(format))?;
+    checks::same(9, antenna2, &second(format, antenna1), size(format))?;
     Ok(antenna1.to_vec())
 }
 

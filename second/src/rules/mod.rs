@@ -7,6 +7,7 @@
 pub mod aich;
 pub mod antenna;
 pub mod bank;
+mod checks;
 pub mod combiner;
 pub mod compressed;
 pub mod desk;

@@ -1,7 +1,7 @@
 //! The P-CCPCH frame on two antennas.
 
 use crate::answer::{Refusal, refuse};
-use crate::rules::sttd;
+use crate::rules::{checks, sttd};
 
 pub const DATA: usize = 270;
 pub const FRAME: usize = 300;
@@ -30,41 +30,17 @@ fn second_antenna(data: &[u8]) -> Vec<u8> {
 }
 
 /// 3 (data, antenna 1, antenna 2), 4 above 1. Answers the frames of both antennas.
-pub fn map(data: &[u8], n_antenna1: usize, n_antenna2: usize) -> Result<(Vec<u8>, Vec<u8>), Refusal> {
-    if data.len() != DATA {
-        return refuse(3, 0);
-    }
-    if n_antenna1 != FRAME {
-        return refuse(3, 1);
-    }
-    if n_antenna2 != FRAME {
-        return refuse(3, 2);
-    }
-    for index in 0..DATA {
-        if data[index] > 1 {
-            return refuse(4, index);
-        }
-    }
-    Ok((frame_of(data), frame_of(&second_antenna(data))))
+pub fn map(data: &[u8], n_antenna1: usize, n_antenna2: usize) -> Result<[Vec<u8>; 2], Refusal> {
+    checks::lengths(&[(data.len(), DATA), (n_antenna1, FRAME), (n_antenna2, FRAME)])?;
+    checks::digits(data, 1, 0)?;
+    Ok([frame_of(data), frame_of(&second_antenna(data))])
 }
 
 /// 3 (antenna 1, antenna 2, data), 4 above 2, 9; places 0 to 299 on antenna 1, 300 to 599 on antenna 2.
 pub fn read(antenna1: &[u8], antenna2: &[u8], n_data: usize) -> Result<Vec<u8>, Refusal> {
-    if antenna1.len() != FRAME {
-        return refuse(3, 0);
-    }
-    if antenna2.len() != FRAME {
-        return refuse(3, 1);
-    }
-    if n_data != DATA {
-        return refuse(3, 2);
-    }
-    let both = [antenna1, antenna2].concat();
-    for place in 0..2 * FRAME {
-        if both[place] > 2 {
-            return refuse(4, place);
-        }
-    }
+    checks::lengths(&[(antenna1.len(), FRAME), (antenna2.len(), FRAME), (n_data, DATA)])?;
+    checks::digits(antenna1, 2, 0)?;
+    checks::digits(antenna2, 2, FRAME)?;
     check_fields(antenna1, antenna2)
 }
 
@@ -79,12 +55,7 @@ fn check_fields(antenna1: &[u8], antenna2: &[u8]) -> Result<Vec<u8>, Refusal> {
         }
     }
     let data: Vec<u8> = (0..DATA).map(|d| antenna1[stands_at(d)]).collect();
-    let implied = frame_of(&second_antenna(&data));
-    for index in 0..FRAME {
-        if antenna2[index] != implied[index] {
-            return refuse(9, FRAME + index);
-        }
-    }
+    checks::same(9, antenna2, &frame_of(&second_antenna(&data)), FRAME)?;
     Ok(data)
 }
 
@@ -98,7 +69,7 @@ mod tests {
         assert_eq!([16, 17, 18, 19].map(stands_at), [18, 19, 22, 23]);
         let mut data = [0; DATA];
         data[18] = 1;
-        let (_, antenna2) = map(&data, FRAME, FRAME).unwrap();
+        let [_, antenna2] = map(&data, FRAME, FRAME).unwrap();
         assert_eq!([18, 19, 22, 23].map(|at| antenna2[at]), [0, 0, 0, 1]);
     }
 }

@@ -1,6 +1,7 @@
 //! PICH.
 
 use crate::answer::{Refusal, refuse};
+use crate::rules::checks;
 
 pub const FRAME: usize = 300;
 
@@ -38,17 +39,8 @@ pub fn q(np: usize, pi: usize, sfn: usize) -> Result<u16, Refusal> {
 /// Order: 8, 3 (indicators, frame), 4 above 1.
 pub fn map(np: usize, indicators: &[u8], n_frame: usize) -> Result<Vec<u8>, Refusal> {
     check_np(np)?;
-    if indicators.len() != np {
-        return refuse(3, 0);
-    }
-    if n_frame != FRAME {
-        return refuse(3, 1);
-    }
-    for (index, indicator) in indicators.iter().enumerate() {
-        if *indicator > 1 {
-            return refuse(4, index);
-        }
-    }
+    checks::lengths(&[(indicators.len(), np), (n_frame, FRAME)])?;
+    checks::digits(indicators, 1, 0)?;
     Ok(mapped(np, indicators))
 }
 
@@ -67,17 +59,8 @@ fn mapped(np: usize, indicators: &[u8]) -> Vec<u8> {
 /// Order: 8, 3 (frame, indicators), 4 above 2, then 9.
 pub fn read(np: usize, frame: &[u8], n_indicators: usize) -> Result<Vec<u8>, Refusal> {
     check_np(np)?;
-    if frame.len() != FRAME {
-        return refuse(3, 0);
-    }
-    if n_indicators != np {
-        return refuse(3, 1);
-    }
-    for (index, digit) in frame.iter().enumerate() {
-        if *digit > 2 {
-            return refuse(4, index);
-        }
-    }
+    checks::lengths(&[(frame.len(), FRAME), (n_indicators, np)])?;
+    checks::digits(frame, 2, 0)?;
     check_fields(np, frame)?;
     let size = 288 / np;
     Ok((0..np).map(|q| frame[size * q]).collect())

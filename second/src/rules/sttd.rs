@@ -1,6 +1,7 @@
 //! STTD.
 
 use crate::answer::{Refusal, refuse};
+use crate::rules::checks;
 
 /// How many values an AICH run has.
 pub const VALUES: usize = 32;
@@ -48,27 +49,14 @@ pub fn digits(input: &[u8], n_out: usize) -> Result<Vec<u8>, Refusal> {
     if n_out != input.len() {
         return refuse(3, 1);
     }
-    for index in 0..input.len() {
-        if input[index] > 2 {
-            return refuse(4, index);
-        }
-    }
+    checks::digits(input, 2, 0)?;
     Ok(encoded(bar, input))
 }
 
 /// Exactly 32 values, each -16 to 16. 3 (input, output), then 11 at the index.
 pub fn values(input: &[i32], n_out: usize) -> Result<Vec<i32>, Refusal> {
-    if input.len() != VALUES {
-        return refuse(3, 0);
-    }
-    if n_out != VALUES {
-        return refuse(3, 1);
-    }
-    for index in 0..VALUES {
-        if input[index] < -16 || input[index] > 16 {
-            return refuse(11, index);
-        }
-    }
+    checks::lengths(&[(input.len(), VALUES), (n_out, VALUES)])?;
+    checks::range(input, 16, 0)?;
     Ok(encoded(negated, input))
 }
 

@@ -1,57 +1,47 @@
 -- `lengths::of_compressed` meets its contract.
 -- Assumes nothing.
-use Prim.Native.Nat.{_≤_}
 use native.Mathlib.Omega.{arith}
-use Rattle.compressed.proofs.Gap.{small-product}
+use Rattle.compressed.proofs.Accept.{gap-alone}
 use Rattle.lengths.specs.Rule.{compressedLengths}
-use Rattle.lengths.proofs.Laws.{gap-alone}
+use Rattle.lengths.proofs.Laws.{row-short}
 use borrow.Author.Needs.{needs}
 use Rattle.lengths.proofs.of_compressed.Statement.{statement}
 use Rattle.lengths.proofs.of_compressed.Tie as tie
 
-row-sizes-requires : tie.Need-row-sizes-requires
-row-sizes-requires c κs = search needs
+format-in-requires : tie.Need-format-in-requires
+format-in-requires c κs = search needs
 
 transmitted-requires : tie.Need-transmitted-requires
 transmitted-requires c κs = search needs
 
-mul-data : tie.Need-mul-data
-mul-data c =
-    let s = c .before .before .row-sizes .ensures in
-    let t : c .before .transmitted .result ≤ 15 = let e = c .before .transmitted .ensures in omega arith in
-    omega (arith, small-product _ _ t (s .data-short))
+gap-head-requires : tie.Need-gap-head-requires
+gap-head-requires c κs = search needs
 
-mul-tfci : tie.Need-mul-tfci
-mul-tfci c =
-    let s = c .before .before .before .row-sizes .ensures in
-    let t : c .before .before .transmitted .result ≤ 15 = let e = c .before .before .transmitted .ensures in omega arith in
-    omega (arith, small-product _ _ t (s .tfci-short))
+add-tell-frame : tie.Need-add-tell-frame
+add-tell-frame c =
+    let s = row-short _ _ _ (c .before .before .before .format-in .ensures) in
+    omega (arith, s .0)
 
-mul-frame : tie.Need-mul-frame
-mul-frame c = search needs
-
-map-head-requires : tie.Need-map-head-requires
-map-head-requires c κs = search needs
-
-tell-requires : tie.Need-tell-requires
-tell-requires c κs = search needs
+tell-frame-requires : tie.Need-tell-frame-requires
+tell-frame-requires c κs =
+    let s = row-short _ _ _ (c .before .before .before .format-in .ensures) in
+    let n = c .before .before .transmitted .ensures in
+    (omega (arith, n), s .0, s .1, s .2)
 
 returns : tie.Need-returns
 unfolding compressedLengths
 returns c =
-    let s = c .before .before .before .before .before .before .row-sizes .ensures in
-    let n = c .before .before .before .before .before .transmitted .ensures in
-    rw (c .before .map-head .ensures, n, s .data-is, s .tfci-is, s .slot-is, gap-alone) at (c .tell .ensures)
+    let f = c .before .before .before .before .format-in .ensures in
+    let n = c .before .before .before .transmitted .ensures in
+    rw (c .before .before .gap-head .ensures, n, f, gap-alone) at (c .tell-frame .ensures)
 
 pub of-compressed-spec : {M : Type 1} → statement M
 of-compressed-spec =
     tie.close
     (tie.spec
-    row-sizes-requires
+    format-in-requires
     transmitted-requires
-    mul-data
-    mul-tfci
-    mul-frame
-    map-head-requires
-    tell-requires
+    gap-head-requires
+    add-tell-frame
+    tell-frame-requires
     returns)

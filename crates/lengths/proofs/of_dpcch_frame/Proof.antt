@@ -14,30 +14,17 @@ format-of-requires c κs = search needs
 frame-head-requires : tie.Need-frame-head-requires
 frame-head-requires c κs = search needs
 
-mul-tell : tie.Need-mul-tell
-mul-tell c = omega (arith, sizes _ _ (c .before .before .format-of .ensures))
-
-mul-tell-2 : tie.Need-mul-tell-2
-mul-tell-2 c = omega (arith, sizes _ _ (c .before .before .before .format-of .ensures))
-
-mul-tell-3 : tie.Need-mul-tell-3
-mul-tell-3 c = omega (arith, sizes _ _ (c .before .before .before .before .format-of .ensures))
-
-tell-requires : tie.Need-tell-requires
-tell-requires c κs = search needs
+tell-frame-requires : tie.Need-tell-frame-requires
+tell-frame-requires c κs =
+    let s = sizes _ _ (c .before .format-of .ensures) in
+    let t = s .tfci-short in
+    let b = s .fbi-short in
+    let w = s .slot-short in
+    (omega arith, omega arith, omega arith, omega arith)
 
 returns : tie.Need-returns
 unfolding dpcchFrameLengths
-returns c = rw (c .before .before .before .before .frame-head .ensures, head-alone, c .before .before .before .before .before .format-of .ensures) at (c .tell .ensures)
+returns c = rw (c .before .frame-head .ensures, head-alone, c .before .before .format-of .ensures) at (c .tell-frame .ensures)
 
 pub of-dpcch-frame-spec : {M : Type 1} → statement M
-of-dpcch-frame-spec =
-    tie.close
-    (tie.spec
-    format-of-requires
-    frame-head-requires
-    mul-tell
-    mul-tell-2
-    mul-tell-3
-    tell-requires
-    returns)
+of-dpcch-frame-spec = tie.close (tie.spec format-of-requires frame-head-requires tell-frame-requires returns)

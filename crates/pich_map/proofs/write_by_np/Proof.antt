@@ -2,7 +2,7 @@
 -- Assumes nothing.
 use mathlib.Core.Path.{_≡_, refl, sym, _∙_}
 use borrow.Author.Needs.{needs}
-use Rattle.pich.specs.Rule.{isNp, frameOf}
+use Rattle.pich.specs.Rule.{isNp}
 use Rattle.pich.proofs.Laws.{last-np}
 use Rattle.pich_map.proofs.write_by_np.Statement.{statement}
 use Rattle.pich_map.proofs.write_by_np.Tie as tie

@@ -12,8 +12,8 @@ use Rattle.pich_read.proofs.Laws.{found-given}
 use Rattle.pich_read.proofs.keep.Statement.{statement}
 use Rattle.pich_read.proofs.keep.Tie as tie
 
-first-above-requires : tie.Need-first-above-requires
-first-above-requires c κs = search needs
+are-bits-requires : tie.Need-are-bits-requires
+are-bits-requires c κs = search needs
 
 returns : tie.Need-returns
 returns c = (λ e. absurd (let z : _≡_ {A = ℕ} 0 1 = cc in omega arith), λ e. refl)
@@ -50,14 +50,14 @@ returns-3 c =
     let start = checked .before .before .before .before .before in
     let p = start .pre in
     let is = copied .copy .ensures ∙ over-whole _ _ (p .2 ∙ sym (p .3)) in
-    let g = found-given (start .args .np) (now (start .args .frame)) (now (start .args .found)) (p .0) (p .1) (p .2) (p .4) (checked .before .first-above .ensures) (checked .if1 .left) (last .before .first-diff .ensures) (last .if2 .left) in
+    let g = found-given (start .args .np) (now (start .args .frame)) (now (start .args .found)) (p .0) (p .1) (p .2) (p .4) (checked .before .are-bits .ensures) (checked .if1 .left) (last .before .first-diff .ensures) (last .if2 .left) in
     (λ e. subst (λ (l : List ℕ). Gives (start .args .np) l (now (start .args .frame))) (sym is) g, λ e. absurd (let z : _≡_ {A = ℕ} 0 1 = cc in omega arith))
 
 pub keep-spec : {M : Type 1} → statement M
 keep-spec =
     tie.close
     (tie.spec
-    first-above-requires
+    are-bits-requires
     returns
     sub-first-diff
     part-first-diff-start

@@ -1,33 +1,40 @@
--- `signature::is_plus` meets its contract: the code's table is the rule's. antt computes the rule at all 512 entries and compares.
+-- `signature::is_plus` meets its contract: the code's table is the printed one, of which the rule is a theorem. antt compares the two tables.
 -- Assumes nothing.
-use mathlib.Core.Path.{_≡_, refl}
+use mathlib.Core.Path.{_≡_, refl, ap, _∙_}
 use mathlib.Core.Bool.{Bool, true, false, cond}
-use mathlib.Core.List.{List, []}
-use Prim.Native.Nat.{ℕ, _<_}
+use mathlib.Core.List.{List, [], map}
+use Prim.Native.Nat.{ℕ, zero, suc, _<_}
 use borrow.Author.Needs.{needs}
-use lib.Count.{ones}
 use lib.Dec.{eqb}
-use lib.ListN.{getD}
-use Rattle.run.specs.Table.{tab}
-use Rattle.run.proofs.Table.{tab-at}
-use Rattle.signature.specs.Rule.{isPlus}
+use lib.IntN.{ℤ, pos, negsuc}
+use lib.ListN.{getD, List·getD-map}
+use Rattle.signature.specs.Rule.{isPlus, sign}
+use Rattle.signature.specs.Table.{table20}
+use Rattle.signature.proofs.Table.{table-at}
 use Rattle.signature.proofs.is_plus.Statement.{statement}
 use Rattle.signature.proofs.is_plus.Tie as tie
 
--- the table that the rule makes, as bytes: 43 is a plus, 45 a minus
-abbrev byteAt : ℕ → ℕ → ℕ
-byteAt s j = cond (isPlus s j) 43 45
+-- a sign as a byte: 43 is a plus, 45 a minus
+abbrev byteOf : ℤ → ℕ
+byteOf (pos zero) = 0
+byteOf (pos (suc n)) = 43
+byteOf (negsuc n) = 45
 
+-- the printed table, as bytes
 abbrev signatures : List (List ℕ)
-signatures = tab 16 (λ (s : ℕ). tab 32 (byteAt s))
+signatures = map (map byteOf) table20
 
-told : (b : Bool) → eqb (cond b 43 45) 43 ≡ b
+told : (b : Bool) → eqb (byteOf (cond b (pos 1) (negsuc 0))) 43 ≡ b
 told true = refl
 told false = refl
 
 entry : (s j : ℕ) → s < 16 → j < 32 → eqb (getD (getD signatures s []) j 0) 43 ≡ isPlus s j
+unfolding sign
 entry s j h l =
-    rw (tab-at 16 (λ (t : ℕ). tab 32 (byteAt t)) s [] h, tab-at 32 (byteAt s) j 0 l) (told (isPlus s j))
+    ap (λ (row : List ℕ). eqb (getD row j 0) 43) (List·getD-map (map byteOf) table20 s [])
+    ∙ ap (λ (byte : ℕ). eqb byte 43) (List·getD-map byteOf (getD table20 s []) j (pos 0))
+    ∙ ap (λ (z : ℤ). eqb (byteOf z) 43) (table-at s j h l)
+    ∙ told (isPlus s j)
 
 mul-result : tie.Need-mul-result
 mul-result c = search needs
@@ -39,7 +46,7 @@ index-2-result : tie.Need-index-2-result
 index-2-result c = search needs
 
 returns : tie.Need-returns
-unfolding isPlus ones tab
+unfolding table20
 returns c = entry _ _ (c .before .pre .0) (c .before .pre .1)
 
 pub is-plus-spec : {M : Type 1} → statement M

@@ -1,20 +1,19 @@
 -- `slot_fits::fields_fit` meets its contract: no check of the definition's chain refuses, field by field.
 -- Assumes nothing.
-use mathlib.Core.Path.{_≡_, refl, sym, ap, _∙_}
+use mathlib.Core.Path.{_≡_, refl, sym, _∙_}
 use mathlib.Core.List.{List}
 use Prim.Native.Nat.{ℕ, _+_, _≤_}
 use native.Mathlib.Omega.{arith}
 use borrow.Author.Needs.{needs}
 use denote.Ref.{now}
-use lib.Dec.{leb, lit<}
+use lib.Dec.{lit<}
 use lib.ListN.{length}
-use Rattle.run.specs.First.{all, likeFirst, agree}
+use Rattle.run.specs.First.{likeFirst, agree}
 use Rattle.run.proofs.Chain.{both-fit, each-fits}
 use Rattle.dpch.specs.Compressed.{pilotFor}
 use Rattle.slot.specs.Rule.{tfciStands}
 use Rattle.slot.specs.Outcome.{digitsVerdict}
 use Rattle.slot.proofs.Laws.{sum, start-tpc, start-tfci, start-pilot}
-use Rattle.slot_fits.specs.Method.{PilotWidth}
 use Rattle.slot_fits.proofs.Laws.{field-told, lent-long, pilot-lent}
 use Rattle.slot_fits.proofs.fields_fit.Statement.{statement}
 use Rattle.slot_fits.proofs.fields_fit.Tie as tie
@@ -78,8 +77,8 @@ is-command-requires c κs = search needs
 both-requires-2 : tie.Need-both-requires-2
 both-requires-2 c κs = search needs
 
-first-above-requires : tie.Need-first-above-requires
-first-above-requires c κs = search needs
+are-digits-requires : tie.Need-are-digits-requires
+are-digits-requires c κs = search needs
 
 both-requires-3 : tie.Need-both-requires-3
 both-requires-3 c κs = search needs
@@ -91,7 +90,7 @@ returns c =
     let f = a .f in
     let xs = now (a .xs) in
     let w = c .before .before .before .before .before .before .before .before .before .before .before .before .before .before .before .pre .0 in
-    both-fit _ _ (c .both3 .ensures) (each-fits _ _ _ _ (lit< tt) (ap (leb (length xs)) (c .before .first-above .ensures)))
+    both-fit _ _ (c .both3 .ensures) (each-fits _ _ _ _ (lit< tt) (c .before .are-digits .ensures))
     (both-fit _ _ (c .before .before .both2 .ensures) (field-told f xs 1 _ _ (lit< tt) (sym (start-tpc f)) refl _ _ likeFirst (lit< tt) (c .before .before .before .is-command .ensures))
     (both-fit _ _ (c .before .before .before .before .before .both .ensures) (field-told f xs 2 _ _ (lit< tt) (sym (start-tfci f)) refl _ _ tfciStands (lit< tt) (c .before .before .before .before .before .before .is-tfci .ensures))
     (field-told f xs 4 _ _ (lit< tt) (sym (start-pilot f)) refl _ _ (λ (s : List ℕ). agree s (pilotFor (f .kind) (f .pilot) (a .slot))) (lit< tt)
@@ -119,6 +118,6 @@ fields-fit-spec =
     part-is-command-end
     is-command-requires
     both-requires-2
-    first-above-requires
+    are-digits-requires
     both-requires-3
     returns)

@@ -4,7 +4,8 @@ use mathlib.Core.Path.{refl}
 use native.Mathlib.Omega.{arith}
 use borrow.Author.Needs.{needs}
 use denote.Ref.{now}
-use Rattle.slot_fits.proofs.Laws.{none-to-ask, command-told, command-silent}
+use Rattle.slot_tfci.proofs.Laws.{none-to-ask}
+use Rattle.slot_fits.proofs.Laws.{command-told, command-silent}
 use Rattle.slot_fits.proofs.is_command.Statement.{statement}
 use Rattle.slot_fits.proofs.is_command.Tie as tie
 

@@ -8,7 +8,8 @@ use lib.ListN.{take, drop}
 use Rattle.dpch.specs.Formats.{kindB}
 use Rattle.dpch.specs.Pilots.{pilotRow}
 use Rattle.dpch.specs.Compressed.{pairsTwice, pilotFor}
-use Rattle.slot_fits.proofs.Laws.{none-to-ask, pilot-told, doubled-4, doubled-8, doubled-16, doubled-32}
+use Rattle.slot_tfci.proofs.Laws.{none-to-ask}
+use Rattle.slot_fits.proofs.Laws.{pilot-told, doubled-4, doubled-8, doubled-16, doubled-32}
 use Rattle.slot_fits.proofs.is_doubled.Statement.{statement}
 use Rattle.slot_fits.proofs.is_doubled.Tie as tie
 

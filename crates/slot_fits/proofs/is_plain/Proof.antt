@@ -6,7 +6,8 @@ use borrow.Author.Needs.{needs}
 use denote.Ref.{now}
 use lib.ListN.{take, drop}
 use Rattle.dpch.specs.Pilots.{pilotRow, pilotOf}
-use Rattle.slot_fits.proofs.Laws.{none-to-ask, pilot-told, pilot-2, pilot-4, pilot-8, pilot-16}
+use Rattle.slot_tfci.proofs.Laws.{none-to-ask}
+use Rattle.slot_fits.proofs.Laws.{pilot-told, pilot-2, pilot-4, pilot-8, pilot-16}
 use Rattle.slot_fits.proofs.is_plain.Statement.{statement}
 use Rattle.slot_fits.proofs.is_plain.Tie as tie
 

@@ -1,9 +1,7 @@
 -- `slot_read::take` meets its contract.
 -- Assumes nothing.
 use mathlib.Core.Path.{sym, _∙_}
-use native.Mathlib.Omega.{arith}
 use Rattle.run.proofs.Chain.{leaves-done, leaves-refused}
-use Rattle.dpch.proofs.Exact.{format-sizes}
 use Rattle.slot.proofs.Accept.{read-headed}
 use borrow.Author.Needs.{needs}
 use Rattle.slot_read.proofs.take.Statement.{statement}
@@ -18,17 +16,10 @@ returns c =
     let n = rw e at (c .if1 .taken) in
     record { verdict-is = e; command-is = sym (leaves-refused _ _ _ n); data-is = sym (leaves-refused _ _ _ n); tfci-is = sym (leaves-refused _ _ _ n) }
 
-format-of-requires : tie.Need-format-of-requires
-format-of-requires c κs = search needs
-
-take-requires : tie.Need-take-requires
-take-requires c κs = rw (c .before .before .format-of .ensures) (read-headed _ _ _ _ _ (rw (c .before .before .before .before .before .read-head .ensures) at (c .before .before .before .if1 .left)) .ready)
-
-command-requires : tie.Need-command-requires
-command-requires c κs =
-    let h = read-headed _ _ _ _ _ (rw (c .before .before .before .before .before .before .before .before .before .before .read-head .ensures) at (c .before .before .before .before .before .before .before .before .if1 .left)) in
-    rw (c .before .before .before .before .before .before .before .format-of .ensures)
-    (record { sound = h .ready .sound; slot-ok = h .ready .slot-ok }, format-sizes _ .has-tpc (let n = h .format-ok in omega arith))
+taken-requires : tie.Need-taken-requires
+taken-requires c κs =
+    let h = read-headed _ _ _ _ _ (rw (c .before .before .before .before .read-head .ensures) at (c .before .before .if1 .left)) in
+    (h .format-ok, h .ready)
 
 same-length : tie.Need-same-length
 same-length c = search needs
@@ -38,25 +29,17 @@ same-length-2 c = search needs
 
 returns-2 : tie.Need-returns-2
 returns-2 c =
-    let e = c .before .before .before .before .before .before .before .before .before .before .before .read-head .ensures in
-    let z = rw e at (c .before .before .before .before .before .before .before .before .before .if1 .left) in
-    let f = c .before .before .before .before .before .before .before .before .format-of .ensures in
+    let e = c .before .before .before .before .before .before .before .before .before .read-head .ensures in
+    let z = rw e at (c .before .before .before .before .before .before .before .if1 .left) in
+    let t = c .before .before .before .before .taken .ensures in
     record {
       verdict-is = e;
-      command-is = c .command .ensures ∙ rw f (sym (leaves-done _ _ _ z));
-      data-is = c .before .before .before .before .before .take .ensures .0 ∙ rw f (sym (leaves-done _ _ _ z));
-      tfci-is = c .before .before .before .before .before .take .ensures .1 ∙ rw f (sym (leaves-done _ _ _ z));
+      command-is = t .0 ∙ sym (leaves-done _ _ _ z);
+      data-is = t .1 ∙ sym (leaves-done _ _ _ z);
+      tfci-is = t .2 ∙ sym (leaves-done _ _ _ z);
     }
 
 pub take-spec : {M : Type 1} → statement M
 take-spec =
     tie.close
-    (tie.spec
-    read-head-requires
-    returns
-    format-of-requires
-    take-requires
-    command-requires
-    same-length
-    same-length-2
-    returns-2)
+    (tie.spec read-head-requires returns taken-requires same-length same-length-2 returns-2)

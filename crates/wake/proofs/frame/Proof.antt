@@ -29,9 +29,9 @@ returns-2 c =
 
 look-requires : tie.Need-look-requires
 look-requires c κs =
-    let paging = c .before .before .before .before in
+    let paging = c .before .before .before in
     let p = paging .q .ensures in
-    let z = rw (p .verdict-is) at (c .before .if2 .left) in
+    let z = rw (p .verdict-is) at (c .if2 .left) in
     let ok = asked _ _ _ z .np-ok in
     let at-q : paging .q .result .q .0 ≡ qOf _ _ _ = q-told _ _ _ _ z (p .q-is) in
     (ok, rw at-q (q-below _ _ _ ok))
@@ -39,28 +39,28 @@ look-requires c κs =
 returns-3 : tie.Need-returns-3
 returns-3 c =
     let looked = c .before .before .before in
-    let paging = looked .before .before .before .before .before in
+    let paging = looked .before .before .before .before in
     let e = paging .before .before .before .frame-head .ensures in
     let a = paging .q .ensures .verdict-is in
     let v = looked .look .ensures .0 in
-    frame-stops _ _ _ _ _ (v ∙ read-is _ _ _ _ (rw e at (paging .before .if1 .left)) (rw a at (looked .before .before .if2 .left))) (c .if3 .taken)
+    frame-stops _ _ _ _ _ (v ∙ read-is _ _ _ _ (rw e at (paging .before .if1 .left)) (rw a at (looked .before .if2 .left))) (c .if3 .taken)
 
 moved-requires : tie.Need-moved-requires
 moved-requires c κs =
     let looked = c .before .before .before in
-    let paging = looked .before .before .before .before .before in
+    let paging = looked .before .before .before .before in
     let e = paging .before .before .before .frame-head .ensures in
     let room = roomy _ _ _ (rw e at (paging .before .if1 .left)) in
     let a = paging .q .ensures .verdict-is in
-    (room .read-room, room .woke-room, asked _ _ _ (rw a at (looked .before .before .if2 .left)) .sfn-ok)
+    (room .read-room, room .woke-room, asked _ _ _ (rw a at (looked .before .if2 .left)) .sfn-ok)
 
 returns-4 : tie.Need-returns-4
 returns-4 c =
     let looked = c .before .before .before .before in
-    let paging = looked .before .before .before .before .before in
+    let paging = looked .before .before .before .before in
     let e = paging .before .before .before .frame-head .ensures in
     let p = paging .q .ensures in
-    let z = rw (p .verdict-is) at (looked .before .before .if2 .left) in
+    let z = rw (p .verdict-is) at (looked .before .if2 .left) in
     let v = looked .look .ensures in
     let there = v .1 (c .before .if3 .left) in
     let at-q : paging .q .result .q .0 ≡ qOf _ _ _ = q-told _ _ _ _ z (p .q-is) in

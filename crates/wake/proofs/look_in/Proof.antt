@@ -14,8 +14,8 @@ use Rattle.wake.proofs.look_in.Tie as tie
 read-requires : tie.Need-read-requires
 read-requires c κs = search needs
 
-slice-read-t9 : tie.Need-slice-read-t9
-slice-read-t9 c = search needs
+slice-read-t10 : tie.Need-slice-read-t10
+slice-read-t10 c = search needs
 
 same-length : tie.Need-same-length
 same-length c = search needs
@@ -26,8 +26,8 @@ returns c =
     let read = c .before .before .before .read in
     let r = read .ensures in (
       r .verdict-is ∙ ap (readVerdict (start .args .np) (now (start .args .digits))) (start .pre .1),
-      λ e. ap (λ (s : List ℕ). getD s (start .args .q) 0) (r .indicators-is ∙ leaves-done _ _ _ (rw (r .verdict-is) at e)),
+      λ e. ap (λ (s : List ℕ). getD s (start .args .q .0) 0) (r .indicators-is ∙ leaves-done _ _ _ (rw (r .verdict-is) at e)),
     )
 
 pub look-in-spec : {M : Type 1} → statement M
-look-in-spec = tie.close (tie.spec read-requires slice-read-t9 same-length returns)
+look-in-spec = tie.close (tie.spec read-requires slice-read-t10 same-length returns)

@@ -139,8 +139,8 @@ fn data_of_sevens() -> Vec<u8> {
 
 fn map(name: &str, data: &[u8], n_antenna2: usize) -> Case {
     let outcome = pccpch::map(data, 300, n_antenna2);
-    let untouched = (vec![MARK; 300], vec![MARK; n_antenna2]);
-    let (antenna1, antenna2) = outcome.clone().unwrap_or(untouched);
+    let untouched = [vec![MARK; 300], vec![MARK; n_antenna2]];
+    let [antenna1, antenna2] = outcome.clone().unwrap_or(untouched);
     let line = Line::new(name, "P-CCPCH map").key("data", runs::digits(data));
     let line = line.lent("antenna1", marks(300), runs::digits(&antenna1));
     line.lent("antenna2", marks(n_antenna2), runs::digits(&antenna2)).answered(&outcome)
@@ -155,7 +155,7 @@ fn read(name: &str, antenna1: &[u8], antenna2: &[u8]) -> Case {
 
 /// The two frames of such data, read back with the digit at a place of antenna 1 and one of antenna 2 turned to another.
 fn read_damaged(name: &str, place1: usize, place2: usize, digit: u8) -> Case {
-    let (antenna1, antenna2) = pccpch::map(&data_of_sevens(), 300, 300).expect("the rules take this data");
+    let [antenna1, antenna2] = pccpch::map(&data_of_sevens(), 300, 300).expect("the rules take this data");
     read(name, &damaged(&antenna1, place1, digit), &damaged(&antenna2, place2, digit))
 }
 

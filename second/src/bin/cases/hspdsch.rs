@@ -3,7 +3,6 @@
 
 use crate::case::{Case, Line};
 use crate::runs::{self, MARK, left, repeated};
-use second::answer::Refusal;
 use second::rules::hspdsch::{self as rules, size};
 
 /// A run and how it is said.
@@ -34,11 +33,11 @@ fn marks(length: usize) -> String {
 
 fn map(name: &str, format: usize, data: &Said, n1: usize, n2: usize) -> Case {
     let outcome = rules::map(format, &data.digits, n1, n2);
-    let antenna1: Result<Vec<u8>, Refusal> = outcome.clone().map(|both| both.0);
-    let antenna2: Result<Vec<u8>, Refusal> = outcome.clone().map(|both| both.1);
+    let untouched = [vec![MARK; n1], vec![MARK; n2]];
+    let [antenna1, antenna2] = outcome.clone().unwrap_or(untouched);
     let line = Line::new(name, "HS-PDSCH map").key("format", format).key("data", &data.text);
-    let line = line.lent("antenna1", marks(n1), runs::digits(&left(&antenna1, n1, MARK)));
-    line.lent("antenna2", marks(n2), runs::digits(&left(&antenna2, n2, MARK))).answered(&outcome)
+    let line = line.lent("antenna1", marks(n1), runs::digits(&antenna1));
+    line.lent("antenna2", marks(n2), runs::digits(&antenna2)).answered(&outcome)
 }
 
 fn read(name: &str, format: usize, antenna1: &Said, antenna2: &Said, n_data: usize) -> Case {

@@ -1,7 +1,8 @@
-//! Job files of one record: the example of docs/RULES.md, 'Job file and program', and the refusals 21 to 25. What a job prints comes on
-//! lines of its own. An over-long file, 20, is no line that can be asked: the comparison of job files has it.
+//! Job files of one record: the example of docs/RULES.md, 'Job file and program', and the refusals 20 to 25. What a job prints comes on
+//! lines of its own. A long file is said by what it repeats.
 
 use crate::case::{Case, Line};
+use crate::runs::repeated;
 use second::rules::job;
 
 const EXAMPLE: [u8; 14] = *b"SLT\x00\x01\x01\x03\x01\x01\x01\x00\x01\x01\x00";
@@ -18,6 +19,13 @@ fn printed(name: &str, file: &[u8]) -> Case {
     Line::new(name, "job").key("file", letters(file)).printed(&job::printed(file))
 }
 
+/// The header of a file of version 1 with one record, and zeros behind it up to this length.
+fn zeros(name: &str, length: usize) -> Case {
+    let (header, behind) = (&EXAMPLE[..6], length - 6);
+    let text = format!("{},0*{behind}", letters(header));
+    Line::new(name, "job").key("file", text).printed(&job::printed(&[header, &repeated(&[0], behind)].concat()))
+}
+
 fn changed(places: &[(usize, u8)]) -> Vec<u8> {
     let mut file = EXAMPLE.to_vec();
     for &(place, byte) in places {
@@ -30,6 +38,9 @@ pub fn all() -> Vec<Case> {
     vec![
         printed("other", &EXAMPLE),
         printed("other", &EXAMPLE_2),
+        // one byte too many is told before the record's kind, which is 0; a file of the greatest length is not over-long
+        zeros("refusal 20", 65536),
+        zeros("refusal 23", 65535),
         // the mark in small letters, and the last letter of it alone with a wrong version
         printed("refusal 21", &changed(&[(0, b's'), (1, b'l'), (2, b't')])),
         printed("refusal 21", &changed(&[(2, b'X'), (4, 3)])),

@@ -3,7 +3,7 @@
 use crate::case::Case;
 use crate::draw::Draw;
 use crate::lent::Held;
-use second::answer::{Answer, Refusal};
+use second::answer::Answer;
 use second::rules::bank::{self as rules, Slot};
 
 /// A bank as calls could have left it, and the number of a slot that it may hold.
@@ -41,13 +41,6 @@ fn lent_bank(draw: &mut Draw, bank: Vec<u8>) -> Held<u8> {
         bank.resize(length, 0);
     }
     draw.held(bank)
-}
-
-fn valued(outcome: &Result<u16, Refusal>) -> Answer {
-    match outcome {
-        Ok(value) => Answer::done(*value),
-        Err(refusal) => Answer::refused(*refusal),
-    }
 }
 
 pub fn empty(draw: &mut Draw) -> Case {
@@ -92,12 +85,12 @@ pub fn length(draw: &mut Draw) -> Case {
     let number = draw.number(number);
     let bank = lent_bank(draw, bank);
     let outcome = rules::length(&bank.run, number);
-    Case::of(&[number]).held(&bank).answers(valued(&outcome))
+    Case::of(&[number]).held(&bank).answers(Answer::telling(&outcome, |length| *length))
 }
 
 pub fn room(draw: &mut Draw) -> Case {
     let (bank, _) = some_bank(draw);
     let bank = lent_bank(draw, bank);
     let outcome = rules::room(&bank.run);
-    Case::of(&[]).held(&bank).answers(valued(&outcome))
+    Case::of(&[]).held(&bank).answers(Answer::telling(&outcome, |room| *room))
 }

@@ -1,6 +1,7 @@
 //! A case of each call but those of dedicated channels.
 
 use crate::case::Case;
+use crate::channel;
 use crate::draw::Draw;
 use crate::lent::{HUGE, Room};
 use second::answer::{Answer, Refusal};
@@ -16,11 +17,7 @@ pub fn pich_q(draw: &mut Draw) -> Case {
     let (pi, sfn) = (draw.random.below(good), draw.random.below(4096));
     let (pi, sfn) = (draw.random.pick(&[pi, pi, good - 1]), draw.random.pick(&[sfn, sfn, 4095]));
     let (np, pi, sfn) = (draw.number(good), draw.number(pi), draw.number(sfn));
-    let answer = match pich::q(np, pi, sfn) {
-        Ok(q) => Answer::done(q),
-        Err(refusal) => Answer::refused(refusal),
-    };
-    Case::of(&[np, pi, sfn]).answers(answer)
+    Case::of(&[np, pi, sfn]).answers(Answer::telling(&pich::q(np, pi, sfn), |q| *q))
 }
 
 pub fn pich_map(draw: &mut Draw) -> Case {
@@ -80,52 +77,47 @@ pub fn sttd_values(draw: &mut Draw) -> Case {
 // P-CCPCH
 
 pub fn pccpch_map(draw: &mut Draw) -> Case {
-    let digits = draw.random.digits(pccpch::DATA, 2);
-    let digits = draw.digits(digits);
-    let data = draw.lend(digits);
-    let (antenna1, antenna2) = (draw.room(pccpch::FRAME), draw.room(pccpch::FRAME));
-    let outcome = pccpch::map(&data.run, antenna1.length, antenna2.length);
-    let (after1, after2) = (outcome.as_ref().ok().map(|both| &both.0[..]), outcome.as_ref().ok().map(|both| &both.1[..]));
-    Case::of(&[]).held(&data).room(&antenna1, after1).room(&antenna2, after2).answers(Answer::of(&outcome))
+    let data = draw.random.digits(pccpch::DATA, 2);
+    on_two_antennas(draw, &[], data, pccpch::FRAME, pccpch::map)
 }
 
 pub fn pccpch_read(draw: &mut Draw) -> Case {
-    let digits = draw.random.digits(pccpch::DATA, 2);
-    let (sent1, sent2) = pccpch::map(&digits, pccpch::FRAME, pccpch::FRAME).expect("good data");
-    let (sent1, sent2) = (draw.digits(sent1), draw.digits(sent2));
-    let (antenna1, antenna2) = (draw.lend(sent1), draw.lend(sent2));
-    let data = draw.room(pccpch::DATA);
-    let outcome = pccpch::read(&antenna1.run, &antenna2.run, data.length);
-    let after = outcome.as_deref().ok();
-    Case::of(&[]).held(&antenna1).held(&antenna2).room(&data, after).answers(Answer::of(&outcome))
+    let data = draw.random.digits(pccpch::DATA, 2);
+    let sent = pccpch::map(&data, pccpch::FRAME, pccpch::FRAME).expect("good data").map(|run| draw.digits(run));
+    channel::read(draw, &[], sent, [pccpch::DATA], |[antenna1, antenna2], [n_data]| {
+        pccpch::read(antenna1, antenna2, n_data).map(|data| (0, [data]))
+    })
+}
+
+/// A map of data to the runs of two antennas, both of one length.
+fn on_two_antennas(
+    draw: &mut Draw, numbers: &[usize], data: Vec<u8>, length: usize,
+    rule: impl FnOnce(&[u8], usize, usize) -> Result<[Vec<u8>; 2], Refusal>,
+) -> Case {
+    let data = draw.digits(data);
+    let data = draw.lend(data);
+    let [antenna1, antenna2] = [length; 2].map(|length| draw.room(length));
+    let outcome = rule(&data.run, antenna1.length, antenna2.length);
+    let [after1, after2] = [0, 1].map(|antenna| outcome.as_ref().ok().map(|both| &both[antenna][..]));
+    Case::of(numbers).held(&data).room(&antenna1, after1).room(&antenna2, after2).answers(Answer::of(&outcome))
 }
 
 // HS-PDSCH
 
 pub fn hspdsch_map(draw: &mut Draw) -> Case {
     let good = draw.random.below(hspdsch::FORMATS);
-    let digits = draw.random.digits(hspdsch::size(good), 2);
-    let digits = draw.digits(digits);
-    let format = draw.number(good);
-    let data = draw.lend(digits);
-    let (antenna1, antenna2) = (draw.room(hspdsch::size(good)), draw.room(hspdsch::size(good)));
-    let outcome = hspdsch::map(format, &data.run, antenna1.length, antenna2.length);
-    let (after1, after2) = (outcome.as_ref().ok().map(|both| &both.0[..]), outcome.as_ref().ok().map(|both| &both.1[..]));
-    Case::of(&[format]).held(&data).room(&antenna1, after1).room(&antenna2, after2).answers(Answer::of(&outcome))
+    let (n, format) = (hspdsch::size(good), draw.number(good));
+    let data = draw.random.digits(n, 2);
+    on_two_antennas(draw, &[format], data, n, |data, n1, n2| hspdsch::map(format, data, n1, n2))
 }
 
 pub fn hspdsch_read(draw: &mut Draw) -> Case {
     let good = draw.random.below(hspdsch::FORMATS);
-    let n = hspdsch::size(good);
-    let digits = draw.random.digits(n, 2);
-    let (sent1, sent2) = hspdsch::map(good, &digits, n, n).expect("good data");
-    let (sent1, sent2) = (draw.digits(sent1), draw.digits(sent2));
-    let format = draw.number(good);
-    let (antenna1, antenna2) = (draw.lend(sent1), draw.lend(sent2));
-    let data = draw.room(n);
-    let outcome = hspdsch::read(format, &antenna1.run, &antenna2.run, data.length);
-    let after = outcome.as_deref().ok();
-    Case::of(&[format]).held(&antenna1).held(&antenna2).room(&data, after).answers(Answer::of(&outcome))
+    let (n, format) = (hspdsch::size(good), draw.number(good));
+    let sent = hspdsch::map(good, &draw.random.digits(n, 2), n, n).expect("good data").map(|run| draw.digits(run));
+    channel::read(draw, &[format], sent, [n], |[antenna1, antenna2], [n_data]| {
+        hspdsch::read(format, antenna1, antenna2, n_data).map(|data| (0, [data]))
+    })
 }
 
 // AICH
@@ -194,11 +186,7 @@ pub fn desk_serve(draw: &mut Draw) -> Case {
 }
 
 fn distance(timing: usize, outcome: Result<usize, Refusal>) -> Case {
-    let answer = match outcome {
-        Ok(chips) => Answer::done(chips as u16),
-        Err(refusal) => Answer::refused(refusal),
-    };
-    Case::of(&[timing]).answers(answer)
+    Case::of(&[timing]).answers(Answer::telling(&outcome, |chips| *chips as u16))
 }
 
 pub fn desk_to_aich(draw: &mut Draw) -> Case {

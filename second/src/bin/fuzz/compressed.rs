@@ -1,9 +1,9 @@
 //! A case of each call of compressed DPCH frames.
 
 use crate::case::Case;
+use crate::channel;
+use crate::dpch::good_slots;
 use crate::draw::Draw;
-use second::answer::Answer;
-use second::fields::random_tfci;
 use second::rules::compressed::{self, Frame, MOST};
 use second::rules::dpch::Format;
 use second::rules::frame::SLOTS;
@@ -27,31 +27,23 @@ fn spoilt(draw: &mut Draw, good: Frame) -> Frame {
     Frame { format, kind, first: draw.number(good.first), missing: draw.number(good.missing) }
 }
 
-/// Random good fields of the frame's transmitted slots: data, TFCI, commands.
-fn fields(draw: &mut Draw, of: Frame, row: &Format) -> [Vec<u8>; 3] {
-    let sent = SLOTS - of.missing;
-    let data = draw.random.digits(sent * row.data(), 3);
-    let tfci = (0..sent).flat_map(|_| random_tfci(&mut draw.random, row)).collect();
-    [data, tfci, draw.random.digits(sent, 2)]
-}
-
 pub fn map(draw: &mut Draw) -> Case {
     let (good, row) = some_frame(draw);
     let of = spoilt(draw, good);
-    let [data, tfci, commands] = fields(draw, good, &row);
-    let (data, tfci, commands) = (draw.digits(data), draw.digits(tfci), draw.digits(commands));
-    let (data, tfci, commands) = (draw.lend(data), draw.lend(tfci), draw.lend(commands));
-    let out = draw.room(SLOTS * row.slot);
-    let outcome = compressed::map(of, &data.run, &tfci.run, out.length, &commands.run);
-    let after = outcome.as_deref().ok();
-    let case = Case::of(&[of.format, of.kind, of.first, of.missing]);
-    case.held(&data).held(&tfci).room(&out, after).held(&commands).answers(Answer::of(&outcome))
+    let fields = good_slots(draw, &row, SLOTS - good.missing);
+    channel::map(draw, &numbers(of), fields, SLOTS * row.slot, |[data, tfci, commands], n_out| {
+        compressed::map(of, data, tfci, n_out, commands)
+    })
+}
+
+fn numbers(of: Frame) -> [usize; 4] {
+    [of.format, of.kind, of.first, of.missing]
 }
 
 pub fn read(draw: &mut Draw) -> Case {
     let (good, row) = some_frame(draw);
     let of = spoilt(draw, good);
-    let [data, tfci, commands] = fields(draw, good, &row);
+    let [data, tfci, commands] = good_slots(draw, &row, SLOTS - good.missing);
     let sent = compressed::map(good, &data, &tfci, SLOTS * row.slot, &commands).expect("good fields");
     // Every second damage is in the gap or in the control fields.
     let sent = draw.digits_at(sent, |random| {
@@ -67,14 +59,8 @@ pub fn read(draw: &mut Draw) -> Case {
         slot * row.slot + within
     });
     let count = SLOTS - good.missing;
-    let (run, data) = (draw.lend(sent), draw.room(count * row.data()));
-    let (tfci, commands) = (draw.room(count * row.tfci), draw.room(count));
-    let outcome = compressed::read(of, &run.run, data.length, tfci.length, commands.length);
-    let fields = outcome.as_ref().ok();
-    Case::of(&[of.format, of.kind, of.first, of.missing])
-        .held(&run)
-        .room(&data, fields.map(|fields| &fields.data[..]))
-        .room(&tfci, fields.map(|fields| &fields.tfci[..]))
-        .room(&commands, fields.map(|fields| &fields.commands[..]))
-        .answers(Answer::of(&outcome))
+    let rooms = [count * row.data(), count * row.tfci, count];
+    channel::read(draw, &numbers(of), [sent], rooms, |[run], [n_data, n_tfci, n_commands]| {
+        Ok((0, compressed::read(of, run, n_data, n_tfci, n_commands)?.into()))
+    })
 }

@@ -1,8 +1,8 @@
 //! A case of each call of DPCH.
 
 use crate::case::Case;
+use crate::channel;
 use crate::draw::Draw;
-use second::answer::Answer;
 use second::fields::{lengths_of, random_tfci};
 use second::random::Random;
 use second::rules::antenna::{self, Given};
@@ -24,11 +24,8 @@ pub fn slot_map(draw: &mut Draw) -> Case {
     let (number, slot, tpc) = (draw.number(good), draw.number(slot), draw.number(tpc));
     let data = draw.random.digits(lengths.data(), 3);
     let tfci = random_tfci(&mut draw.random, &lengths);
-    let (data, tfci) = (draw.digits(data), draw.digits(tfci));
-    let (data, tfci, out) = (draw.lend(data), draw.lend(tfci), draw.room(lengths.slot));
-    let outcome = dpch::map(number, slot, tpc, &data.run, &tfci.run, out.length);
-    let after = outcome.as_deref().ok();
-    Case::of(&[number, slot, tpc]).held(&data).held(&tfci).room(&out, after).answers(Answer::of(&outcome))
+    let rule = |[data, tfci]: [&[u8]; 2], n_out| dpch::map(number, slot, tpc, data, tfci, n_out);
+    channel::map(draw, &[number, slot, tpc], [data, tfci], lengths.slot, rule)
 }
 
 pub fn slot_read(draw: &mut Draw) -> Case {
@@ -38,18 +35,9 @@ pub fn slot_read(draw: &mut Draw) -> Case {
     let sent = good_slot(draw, &lengths, slot);
     let sent = draw.digits_at(sent, |random| some_index(random, &lengths));
     let (number, slot) = (draw.number(good), draw.number(slot));
-    let (run, data, tfci) = (draw.lend(sent), draw.room(lengths.data()), draw.room(lengths.tfci));
-    let outcome = dpch::read(number, slot, &run.run, data.length, tfci.length);
-    let answer = match &outcome {
-        Ok(fields) => Answer::done(fields.tpc.into()),
-        Err(refusal) => Answer::refused(*refusal),
-    };
-    let fields = outcome.as_ref().ok();
-    Case::of(&[number, slot])
-        .held(&run)
-        .room(&data, fields.map(|fields| &fields.data[..]))
-        .room(&tfci, fields.map(|fields| &fields.tfci[..]))
-        .answers(answer)
+    channel::read(draw, &[number, slot], [sent], [lengths.data(), lengths.tfci], |[run], [n_data, n_tfci]| {
+        dpch::read(number, slot, run, n_data, n_tfci).map(|fields| (fields.tpc, [fields.data, fields.tfci]))
+    })
 }
 
 /// What a slot of random fields holds.
@@ -77,11 +65,8 @@ pub fn slot_map_antenna(draw: &mut Draw) -> Case {
     let numbers = [good, slot, antenna, tpc].map(|number| draw.number(number));
     let data = draw.random.digits(lengths.data(), 3);
     let tfci = random_tfci(&mut draw.random, &lengths);
-    let (data, tfci) = (draw.digits(data), draw.digits(tfci));
-    let (data, tfci, out) = (draw.lend(data), draw.lend(tfci), draw.room(lengths.slot));
-    let outcome = antenna::map(&Given { numbers, data: &data.run, tfci: &tfci.run, n_out: out.length });
-    let after = outcome.as_deref().ok();
-    Case::of(&numbers).held(&data).held(&tfci).room(&out, after).answers(Answer::of(&outcome))
+    let rule = |[data, tfci]: [&[u8]; 2], n_out| antenna::map(&Given { numbers, data, tfci, n_out });
+    channel::map(draw, &numbers, [data, tfci], lengths.slot, rule)
 }
 
 pub fn slot_read_antennas(draw: &mut Draw) -> Case {
@@ -93,20 +78,11 @@ pub fn slot_read_antennas(draw: &mut Draw) -> Case {
     let first = draw.digits_at(first, |random| some_index(random, &lengths));
     let second = draw.digits(second);
     let (number, slot) = (draw.number(good), draw.number(slot));
-    let (first, second) = (draw.lend(first), draw.lend(second));
-    let (data, tfci) = (draw.room(lengths.data()), draw.room(lengths.tfci));
-    let outcome = antenna::read(number, slot, &first.run, &second.run, data.length, tfci.length);
-    let answer = match &outcome {
-        Ok(fields) => Answer::done(fields.tpc.into()),
-        Err(refusal) => Answer::refused(*refusal),
-    };
-    let fields = outcome.as_ref().ok();
-    Case::of(&[number, slot])
-        .held(&first)
-        .held(&second)
-        .room(&data, fields.map(|fields| &fields.data[..]))
-        .room(&tfci, fields.map(|fields| &fields.tfci[..]))
-        .answers(answer)
+    let rooms = [lengths.data(), lengths.tfci];
+    channel::read(draw, &[number, slot], [first, second], rooms, |[first, second], [n_data, n_tfci]| {
+        let fields = antenna::read(number, slot, first, second, n_data, n_tfci)?;
+        Ok((fields.tpc, [fields.data, fields.tfci]))
+    })
 }
 
 // Frames
@@ -115,16 +91,17 @@ pub fn frame_map(draw: &mut Draw) -> Case {
     let good = some_format(draw);
     let lengths = lengths_of(good);
     let number = draw.number(good);
-    let data = draw.random.digits(SLOTS * lengths.data(), 3);
-    let tfci: Vec<u8> = (0..SLOTS).flat_map(|_| random_tfci(&mut draw.random, &lengths)).collect();
-    let commands = draw.random.digits(SLOTS, 2);
-    let (data, tfci, commands) = (draw.digits(data), draw.digits(tfci), draw.digits(commands));
-    let (data, tfci, commands) = (draw.lend(data), draw.lend(tfci), draw.lend(commands));
-    let out = draw.room(SLOTS * lengths.slot);
-    let outcome = frame::map(number, &data.run, &tfci.run, out.length, &commands.run);
-    let after = outcome.as_deref().ok();
-    let case = Case::of(&[number]).held(&data).held(&tfci).room(&out, after).held(&commands);
-    case.answers(Answer::of(&outcome))
+    let fields = good_slots(draw, &lengths, SLOTS);
+    channel::map(draw, &[number], fields, SLOTS * lengths.slot, |[data, tfci, commands], n_out| {
+        frame::map(number, data, tfci, n_out, commands)
+    })
+}
+
+/// Random good fields of so many slots: data, TFCI, commands.
+pub fn good_slots(draw: &mut Draw, lengths: &Format, slots: usize) -> [Vec<u8>; 3] {
+    let data = draw.random.digits(slots * lengths.data(), 3);
+    let tfci = (0..slots).flat_map(|_| random_tfci(&mut draw.random, lengths)).collect();
+    [data, tfci, draw.random.digits(slots, 2)]
 }
 
 pub fn frame_read(draw: &mut Draw) -> Case {
@@ -133,14 +110,8 @@ pub fn frame_read(draw: &mut Draw) -> Case {
     let number = draw.number(good);
     let sent: Vec<u8> = (0..SLOTS).flat_map(|slot| good_slot(draw, &lengths, slot)).collect();
     let sent = draw.digits_at(sent, |random| random.below(SLOTS) * lengths.slot + some_index(random, &lengths));
-    let (run, data) = (draw.lend(sent), draw.room(SLOTS * lengths.data()));
-    let (tfci, commands) = (draw.room(SLOTS * lengths.tfci), draw.room(SLOTS));
-    let outcome = frame::read(number, &run.run, data.length, tfci.length, commands.length);
-    let fields = outcome.as_ref().ok();
-    Case::of(&[number])
-        .held(&run)
-        .room(&data, fields.map(|fields| &fields.data[..]))
-        .room(&tfci, fields.map(|fields| &fields.tfci[..]))
-        .room(&commands, fields.map(|fields| &fields.commands[..]))
-        .answers(Answer::of(&outcome))
+    let rooms = [SLOTS * lengths.data(), SLOTS * lengths.tfci, SLOTS];
+    channel::read(draw, &[number], [sent], rooms, |[run], [n_data, n_tfci, n_commands]| {
+        Ok((0, frame::read(number, run, n_data, n_tfci, n_commands)?.into()))
+    })
 }

@@ -7,11 +7,8 @@ use second::rules::compressed::Frame;
 use second::rules::lengths as rules;
 
 fn told(numbers: &[usize], outcome: Result<usize, Refusal>) -> Case {
-    let answer = match outcome {
-        Ok(length) => Answer::done(u16::try_from(length).expect("a length fits 16 bits")),
-        Err(refusal) => Answer::refused(refusal),
-    };
-    Case::of(numbers).answers(answer)
+    let told = |length: &usize| u16::try_from(*length).expect("a length fits 16 bits");
+    Case::of(numbers).answers(Answer::telling(&outcome, told))
 }
 
 /// A format up to `last` and one of `runs` runs, each spoilt now and then.

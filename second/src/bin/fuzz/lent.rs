@@ -9,29 +9,17 @@ pub trait Element: Copy + Default {
     fn put(self, bytes: &mut Vec<u8>);
 }
 
-impl Element for u8 {
-    fn put(self, bytes: &mut Vec<u8>) {
-        bytes.push(self);
-    }
+macro_rules! elements {
+    ($($element:ty),*) => {
+        $(impl Element for $element {
+            fn put(self, bytes: &mut Vec<u8>) {
+                bytes.extend(self.to_le_bytes());
+            }
+        })*
+    };
 }
 
-impl Element for i32 {
-    fn put(self, bytes: &mut Vec<u8>) {
-        bytes.extend(self.to_le_bytes());
-    }
-}
-
-impl Element for u32 {
-    fn put(self, bytes: &mut Vec<u8>) {
-        bytes.extend(self.to_le_bytes());
-    }
-}
-
-impl Element for i64 {
-    fn put(self, bytes: &mut Vec<u8>) {
-        bytes.extend(self.to_le_bytes());
-    }
-}
+elements!(u8, i32, u32, i64);
 
 /// A run that is read. It is never huge: a call may look at all of it before it refuses its length. NULL goes with length
 /// 0 only.

@@ -13,6 +13,7 @@
 mod bank;
 mod calls;
 mod case;
+mod channel;
 mod compressed;
 mod dpch;
 mod draw;

@@ -1,6 +1,7 @@
 //! A case of each call of the uplink.
 
 use crate::case::Case;
+use crate::channel;
 use crate::draw::Draw;
 use second::answer::Answer;
 use second::rules::dpcch::{self, Fields, Format, SLOT, SLOTS};
@@ -42,11 +43,9 @@ pub fn dpcch_map(draw: &mut Draw) -> Case {
     let (slot, tpc) = (draw.random.below(SLOTS), draw.random.below(2));
     let (number, slot, tpc) = (draw.number(good), draw.number(slot), draw.number(tpc));
     let (tfci, fbi) = (draw.random.digits(lengths.tfci, 2), draw.random.digits(lengths.fbi, 2));
-    let (tfci, fbi) = (draw.digits(tfci), draw.digits(fbi));
-    let (tfci, fbi, out) = (draw.lend(tfci), draw.lend(fbi), draw.room(SLOT));
-    let outcome = dpcch::map(number, slot, tpc, &tfci.run, &fbi.run, out.length);
-    let after = outcome.as_deref().ok();
-    Case::of(&[number, slot, tpc]).held(&tfci).held(&fbi).room(&out, after).answers(Answer::of(&outcome))
+    channel::map(draw, &[number, slot, tpc], [tfci, fbi], SLOT, |[tfci, fbi], n_out| {
+        dpcch::map(number, slot, tpc, tfci, fbi, n_out)
+    })
 }
 
 pub fn dpcch_read(draw: &mut Draw) -> Case {
@@ -55,18 +54,9 @@ pub fn dpcch_read(draw: &mut Draw) -> Case {
     let sent = good_slot(draw, &lengths, slot);
     let sent = draw.digits(sent);
     let (number, slot) = (draw.number(good), draw.number(slot));
-    let (run, tfci, fbi) = (draw.lend(sent), draw.room(lengths.tfci), draw.room(lengths.fbi));
-    let outcome = dpcch::read(number, slot, &run.run, tfci.length, fbi.length);
-    let answer = match &outcome {
-        Ok(fields) => Answer::done(fields.tpc.into()),
-        Err(refusal) => Answer::refused(*refusal),
-    };
-    let fields = outcome.as_ref().ok();
-    Case::of(&[number, slot])
-        .held(&run)
-        .room(&tfci, fields.map(|fields| &fields.tfci[..]))
-        .room(&fbi, fields.map(|fields| &fields.fbi[..]))
-        .answers(answer)
+    channel::read(draw, &[number, slot], [sent], [lengths.tfci, lengths.fbi], |[run], [n_tfci, n_fbi]| {
+        dpcch::read(number, slot, run, n_tfci, n_fbi).map(|fields| (fields.tpc, [fields.tfci, fields.fbi]))
+    })
 }
 
 /// What a slot of random fields holds.
@@ -78,16 +68,15 @@ fn good_slot(draw: &mut Draw, lengths: &Format, slot: usize) -> Vec<u8> {
 pub fn dpcch_frame_map(draw: &mut Draw) -> Case {
     let (good, lengths) = some_format(draw);
     let number = draw.number(good);
-    let tfci = draw.random.digits(SLOTS * lengths.tfci, 2);
-    let fbi = draw.random.digits(SLOTS * lengths.fbi, 2);
-    let commands = draw.random.digits(SLOTS, 2);
-    let (tfci, fbi, commands) = (draw.digits(tfci), draw.digits(fbi), draw.digits(commands));
-    let (tfci, fbi, commands) = (draw.lend(tfci), draw.lend(fbi), draw.lend(commands));
-    let out = draw.room(SLOTS * SLOT);
-    let outcome = dpcch::frame_map(number, &tfci.run, &fbi.run, out.length, &commands.run);
-    let after = outcome.as_deref().ok();
-    let case = Case::of(&[number]).held(&tfci).held(&fbi).room(&out, after).held(&commands);
-    case.answers(Answer::of(&outcome))
+    let fields = frame_runs(&lengths).map(|length| draw.random.digits(length, 2));
+    channel::map(draw, &[number], fields, SLOTS * SLOT, |[tfci, fbi, commands], n_out| {
+        dpcch::frame_map(number, tfci, fbi, n_out, commands)
+    })
+}
+
+/// How long the TFCI, FBI and commands of a frame are.
+fn frame_runs(lengths: &Format) -> [usize; 3] {
+    [SLOTS * lengths.tfci, SLOTS * lengths.fbi, SLOTS]
 }
 
 pub fn dpcch_frame_read(draw: &mut Draw) -> Case {
@@ -95,14 +84,7 @@ pub fn dpcch_frame_read(draw: &mut Draw) -> Case {
     let number = draw.number(good);
     let sent: Vec<u8> = (0..SLOTS).flat_map(|slot| good_slot(draw, &lengths, slot)).collect();
     let sent = draw.digits(sent);
-    let (run, tfci) = (draw.lend(sent), draw.room(SLOTS * lengths.tfci));
-    let (fbi, commands) = (draw.room(SLOTS * lengths.fbi), draw.room(SLOTS));
-    let outcome = dpcch::frame_read(number, &run.run, tfci.length, fbi.length, commands.length);
-    let fields = outcome.as_ref().ok();
-    Case::of(&[number])
-        .held(&run)
-        .room(&tfci, fields.map(|fields| &fields.tfci[..]))
-        .room(&fbi, fields.map(|fields| &fields.fbi[..]))
-        .room(&commands, fields.map(|fields| &fields.commands[..]))
-        .answers(Answer::of(&outcome))
+    channel::read(draw, &[number], [sent], frame_runs(&lengths), |[run], [n_tfci, n_fbi, n_commands]| {
+        Ok((0, dpcch::frame_read(number, run, n_tfci, n_fbi, n_commands)?.into()))
+    })
 }

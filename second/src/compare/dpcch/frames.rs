@@ -1,156 +1,141 @@
-//! One call of a frame each, compared; and what maps and reads of frames share.
+//! Frames of the DPCCH: the calls, what spoils them, and the inputs that these frames alone are tried with.
 
-use super::*;
+use super::{BAD_FORMATS, FORMATS, NO_BITS, lengths_of, spoil_slot};
+use crate::answer::{Answer, Refusal};
+use crate::compare::dpch::DAMAGE;
+use crate::compare::frames::{self, COMMANDS, Faulty, Frame, Map, SLOTS, good_map, good_read, read_of};
+use crate::ffi;
+use crate::fields::{NO_COMMANDS, put_somewhere};
+use crate::judge::Judge;
+use crate::lent::Lent;
+use crate::random::Random;
+use crate::rules::dpcch::{self as rules, SLOT};
 
-/// What one map is given.
-#[derive(Clone)]
-pub struct MapFrame {
-    pub number: usize,
-    pub tfci: Option<Vec<u8>>,
-    pub fbi: Option<Vec<u8>>,
-    pub room: Option<usize>,
-    pub commands: Option<Vec<u8>>,
+/// Every comparison of frames.
+pub fn all(judge: &mut Judge) {
+    for of in (0..FORMATS).map(Uplink) {
+        there_and_back(judge, of);
+        map_damaged(judge, of);
+        read_damaged(judge, of);
+        frames::faults_in_two_slots(judge, of);
+        frames::map_fault_sets(judge, of);
+        frames::read_fault_sets(judge, of);
+        frames::wrong_lengths(judge, of);
+        frames::no_plan(judge, of, 2000, &[2, 3, 256], 20);
+        frames::slots_moved(judge, of);
+        as_another(judge, of);
+    }
+    frames::bad_formats::<Uplink>(judge);
 }
 
-impl MapFrame {
-    /// Compares the call and answers the frame, if the rules give one.
-    pub fn compare(&self, judge: &mut Judge) -> Option<Vec<u8>> {
-        let (tfci, fbi, commands) = (self.tfci.as_deref(), self.fbi.as_deref(), self.commands.as_deref());
-        let expected = self.expected();
-        let mut lent_tfci = Lent::holding(tfci, judge.salt());
-        let mut lent_fbi = Lent::holding(fbi, judge.salt());
-        let mut lent_out = Lent::room(self.room, judge.salt());
-        let mut lent_commands = Lent::holding(commands, judge.salt());
-        let got =
-            ffi::dpcch_frame_map(self.number, &mut lent_tfci, &mut lent_fbi, &mut lent_out, &mut lent_commands);
-        let runs = [
-            lent_tfci.kept("tfci"),
-            lent_fbi.kept("fbi"),
-            lent_out.after("out", expected.as_deref().ok()),
-            lent_commands.kept("commands"),
-        ];
-        judge.compare("slt_dpcch_frame_map", || self.in_words(), Answer::of(&expected), got, runs);
-        expected.ok()
+/// The frame of a format.
+#[derive(Clone, Copy)]
+struct Uplink(usize);
+
+impl Frame for Uplink {
+    const CALLS: [&'static str; 2] = ["slt_dpcch_frame_map", "slt_dpcch_frame_read"];
+    const FIELDS: [&'static str; 2] = ["tfci", "fbi"];
+
+    fn in_words(self) -> String {
+        format!("format {}", self.0)
     }
 
-    /// What the rules say of the call.
-    fn expected(&self) -> Result<Vec<u8>, crate::answer::Refusal> {
-        let (tfci, fbi) = (self.tfci.as_deref().unwrap_or(&[]), self.fbi.as_deref().unwrap_or(&[]));
-        let commands = self.commands.as_deref().unwrap_or(&[]);
-        rules::frame_map(self.number, tfci, fbi, self.room.unwrap_or(0), commands)
+    fn lengths(self) -> ([usize; 3], usize) {
+        let format = lengths_of(self.0);
+        ([SLOTS * format.tfci, SLOTS * format.fbi, SLOTS], SLOTS * SLOT)
     }
 
-    fn in_words(&self) -> String {
-        let (tfci, fbi) = (shortened(self.tfci.as_deref()), shortened(self.fbi.as_deref()));
-        let (out, commands) = (room_in_words(self.room), shortened(self.commands.as_deref()));
-        format!("format {}, tfci {tfci}, fbi {fbi}, out {out}, commands {commands}", self.number)
-    }
-}
-
-/// What one read is given.
-#[derive(Clone)]
-pub struct ReadFrame {
-    pub number: usize,
-    pub frame: Option<Vec<u8>>,
-    pub tfci: Option<usize>,
-    pub fbi: Option<usize>,
-    pub commands: Option<usize>,
-}
-
-impl ReadFrame {
-    /// Compares the call and answers the fields, if the rules give them.
-    pub fn compare(&self, judge: &mut Judge) -> Option<FrameFields> {
-        let frame = self.frame.as_deref();
-        let [n_tfci, n_fbi, n_commands] = [self.tfci, self.fbi, self.commands].map(|length| length.unwrap_or(0));
-        let expected = rules::frame_read(self.number, frame.unwrap_or(&[]), n_tfci, n_fbi, n_commands);
-        let mut lent_frame = Lent::holding(frame, judge.salt());
-        let mut lent_tfci = Lent::room(self.tfci, judge.salt());
-        let mut lent_fbi = Lent::room(self.fbi, judge.salt());
-        let mut lent_commands = Lent::room(self.commands, judge.salt());
-        let got =
-            ffi::dpcch_frame_read(self.number, &mut lent_frame, &mut lent_tfci, &mut lent_fbi, &mut lent_commands);
-        let fields = expected.as_ref().ok();
-        let runs = [
-            lent_frame.kept("frame"),
-            lent_tfci.after("tfci", fields.map(|f| &f.tfci[..])),
-            lent_fbi.after("fbi", fields.map(|f| &f.fbi[..])),
-            lent_commands.after("commands", fields.map(|f| &f.commands[..])),
-        ];
-        judge.compare("slt_dpcch_frame_read", || self.in_words(), Answer::of(&expected), got, runs);
-        expected.ok()
+    fn fields(self, random: &mut Random) -> [Vec<u8>; 3] {
+        self.lengths().0.map(|length| random.digits(length, 2))
     }
 
-    fn in_words(&self) -> String {
-        let [tfci, fbi, commands] = [self.tfci, self.fbi, self.commands].map(room_in_words);
-        let frame = shortened(self.frame.as_deref());
-        format!("format {}, frame {frame}, tfci {tfci}, fbi {fbi}, commands {commands}", self.number)
+    fn rule_map(self, [tfci, fbi, commands]: [&[u8]; 3], n_out: usize) -> Result<Vec<u8>, Refusal> {
+        rules::frame_map(self.0, tfci, fbi, n_out, commands)
+    }
+
+    fn rule_read(self, frame: &[u8], [tfci, fbi, commands]: [usize; 3]) -> Result<[Vec<u8>; 3], Refusal> {
+        rules::frame_read(self.0, frame, tfci, fbi, commands).map(Into::into)
+    }
+
+    fn library_map(self, [tfci, fbi, commands]: [&mut Lent<u8>; 3], out: &mut Lent<u8>) -> Answer {
+        ffi::dpcch_frame_map(self.0, tfci, fbi, out, commands)
+    }
+
+    fn library_read(self, frame: &mut Lent<u8>, [tfci, fbi, commands]: [&mut Lent<u8>; 3]) -> Answer {
+        ffi::dpcch_frame_read(self.0, frame, tfci, fbi, commands)
     }
 }
 
-// The inputs.
+impl Faulty for Uplink {
+    const FORMATS: usize = FORMATS;
+    const FAULTS: [usize; 2] = [3, 3];
+    const ROUNDS: usize = 8;
+    const BAD: &'static [usize] = &BAD_FORMATS;
 
-/// A call that is done: right lengths, random bits.
-pub fn good_map(random: &mut Random, number: usize) -> MapFrame {
-    let format = lengths_of(number);
-    let (tfci, fbi) = (random.digits(SLOTS * format.tfci, 2), random.digits(SLOTS * format.fbi, 2));
-    let commands = Some(random.digits(SLOTS, 2));
-    MapFrame { number, tfci: Some(tfci), fbi: Some(fbi), room: Some(SLOTS * SLOT), commands }
-}
+    fn of(number: usize) -> Uplink {
+        Uplink(number)
+    }
 
-/// The read of a run that has the right length.
-pub fn read_of(number: usize, frame: Vec<u8>) -> ReadFrame {
-    let format = lengths_of(number);
-    let (tfci, fbi) = (Some(SLOTS * format.tfci), Some(SLOTS * format.fbi));
-    ReadFrame { number, frame: Some(frame), tfci, fbi, commands: Some(SLOTS) }
-}
+    fn number(self) -> usize {
+        self.0
+    }
 
-/// A read that is done: what the rules give for a good map.
-pub fn good_read(random: &mut Random, number: usize) -> ReadFrame {
-    read_of(number, good_map(random, number).expected().expect("a good call"))
+    /// The slot's command, its TFCI, its FBI.
+    fn spoil_fields(call: &mut Map<Uplink>, slot: usize, fault: usize, random: &mut Random) {
+        let (run, values) = [(COMMANDS, &NO_COMMANDS[..]), (0, &NO_BITS[..]), (1, &NO_BITS[..])][fault];
+        let part = call.run(run).len() / SLOTS;
+        put_somewhere(&mut call.run(run)[slot * part..(slot + 1) * part], values, random);
+    }
+
+    fn spoil_slot(self, digits: &mut [u8], fault: usize, random: &mut Random) {
+        spoil_slot(digits, &lengths_of(self.0), fault, random);
+    }
 }
 
 /// Extreme and random bits; what was mapped is read and must come back.
-pub fn there_and_back(judge: &mut Judge, number: usize) {
-    let mut random = Random::new(number as u64);
-    let format = lengths_of(number);
+fn there_and_back(judge: &mut Judge, of: Uplink) {
+    let mut random = Random::new(of.0 as u64);
     for round in 0..2000 {
-        let mut call = good_map(&mut random, number);
+        let mut call = good_map(&mut random, of);
         if round < 8 {
-            let bit = |place: usize| (round >> place & 1) as u8;
-            call.tfci = Some(vec![bit(0); SLOTS * format.tfci]);
-            call.fbi = Some(vec![bit(1); SLOTS * format.fbi]);
-            call.commands = Some(vec![bit(2); SLOTS]);
+            (0..3).for_each(|run| call.run(run).fill((round >> run & 1) as u8));
         }
-        let sent = FrameFields {
-            tfci: call.tfci.clone().unwrap(),
-            fbi: call.fbi.clone().unwrap(),
-            commands: call.commands.clone().unwrap(),
-        };
-        // An empty run may be NULL.
-        call.tfci = call.tfci.filter(|run| !run.is_empty() || round % 2 == 0);
-        call.fbi = call.fbi.filter(|run| !run.is_empty() || round % 4 < 2);
-        let frame = call.compare(judge).expect("a good call");
-        let mut reading = read_of(number, frame);
-        reading.tfci = reading.tfci.filter(|length| *length > 0 || round % 2 == 0);
-        reading.fbi = reading.fbi.filter(|length| *length > 0 || round % 4 < 2);
-        let back = reading.compare(judge).expect("a mapped frame");
-        assert_eq!(back, sent, "the rules themselves do not round trip");
+        frames::there_and_back(judge, call, [round % 2 == 0, round % 4 < 2]);
     }
 }
 
-/// A bad format wins over every other fault, and is refused with none beside it.
-pub fn bad_formats(judge: &mut Judge) {
-    let mut random = Random::new(180);
-    for bad in BAD_FORMATS {
-        for number in 0..FORMATS {
-            let mut mapping = good_map(&mut random, number);
-            mapping.number = bad;
-            mapping.compare(judge);
-            let mut reading = good_read(&mut random, number);
-            reading.number = bad;
-            reading.compare(judge);
+/// Each digit of TFCI and FBI, and each command, damaged to each value: so the first and last of each slot are.
+fn map_damaged(judge: &mut Judge, of: Uplink) {
+    let mut random = Random::new(20 + of.0 as u64);
+    for to in DAMAGE {
+        let mut call = good_map(&mut random, of);
+        for run in 0..3 {
+            for index in 0..call.run(run).len() {
+                let good = std::mem::replace(&mut call.run(run)[index], to);
+                call.compare(judge);
+                call.run(run)[index] = good;
+            }
         }
-        MapFrame { number: bad, tfci: None, fbi: None, room: None, commands: None }.compare(judge);
-        ReadFrame { number: bad, frame: None, tfci: None, fbi: None, commands: None }.compare(judge);
+    }
+}
+
+/// Every digit of every slot damaged to each value: so the first and last of each field are.
+fn read_damaged(judge: &mut Judge, of: Uplink) {
+    let mut random = Random::new(80 + of.0 as u64);
+    for index in 0..SLOTS * SLOT {
+        let mut call = good_read(&mut random, of);
+        for to in DAMAGE {
+            call.frame.as_mut().unwrap()[index] = to;
+            call.compare(judge);
+        }
+    }
+}
+
+/// A frame of one format read as another.
+fn as_another(judge: &mut Judge, of: Uplink) {
+    let mut random = Random::new(180 + of.0 as u64);
+    for round in 0..100 {
+        let frame = good_read(&mut random, of).frame.unwrap();
+        read_of(Uplink(round % FORMATS), frame).compare(judge);
     }
 }

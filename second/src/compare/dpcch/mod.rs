@@ -1,21 +1,17 @@
 //! The uplink DPCCH: the library's four calls against the rules.
 
-mod frame_map;
-mod frame_read;
 mod frames;
 mod map;
 mod read;
 
 use super::dpch::{BAD_COMMANDS, BAD_SLOTS, DAMAGE, change_length, digits_of, other_length};
-use super::frame::{pairs_of_slots, runs_of_other_lengths};
 use super::lengths;
 use crate::answer::Answer;
 use crate::ffi;
-use crate::fields::{NO_COMMANDS, put_somewhere};
-use crate::judge::{Judge, room_in_words, shortened};
-use crate::lent::Lent;
+use crate::fields::put_somewhere;
+use crate::judge::Judge;
 use crate::random::Random;
-use crate::rules::dpcch::{self as rules, Fields, Format, FrameFields, SLOT, SLOTS};
+use crate::rules::dpcch::{self as rules, Fields, Format, SLOT, SLOTS};
 
 /// Formats 0 to 3.
 const FORMATS: usize = 4;
@@ -43,25 +39,8 @@ pub fn all(judge: &mut Judge) {
         read::as_another(judge, number);
         read::wrong_lengths(judge, number);
         read::no_plan(judge, number);
-        frames::there_and_back(judge, number);
-        frame_map::damaged(judge, number);
-        frame_map::faults_in_two_slots(judge, number);
-        frame_map::fault_sets(judge, number);
-        frame_map::wrong_lengths(judge, number);
-        frame_read::damaged(judge, number);
-        frame_read::faults_in_two_slots(judge, number);
-        frame_read::fault_sets(judge, number);
-        frame_read::no_plan(judge, number);
-        frame_read::wrong_lengths(judge, number);
-        frame_read::slots_moved(judge, number);
-        frame_read::as_another(judge, number);
     }
-    frames::bad_formats(judge);
-    // 6 is none of them.
-    judge.must_have_seen("slt_dpcch_map", &[0, 1, 2, 3, 4, 5]);
-    judge.must_have_seen("slt_dpcch_read", &[0, 1, 2, 3, 4, 5, 7]);
-    judge.must_have_seen("slt_dpcch_frame_map", &[0, 1, 3, 4, 5]);
-    judge.must_have_seen("slt_dpcch_frame_read", &[0, 1, 3, 4, 5, 7]);
+    frames::all(judge);
 }
 
 // One call of a slot each, compared.
@@ -80,15 +59,13 @@ struct Map {
 impl Map {
     /// Compares the call and answers the slot, if the rules give one.
     fn compare(&self, judge: &mut Judge) -> Option<Vec<u8>> {
-        let (tfci, fbi) = (self.tfci.as_deref(), self.fbi.as_deref());
         let expected = self.expected();
-        let mut lent_tfci = Lent::holding(tfci, judge.salt());
-        let mut lent_fbi = Lent::holding(fbi, judge.salt());
-        let mut lent_out = Lent::room(self.room, judge.salt());
-        let got = ffi::dpcch_map(self.number, self.slot, self.tpc, &mut lent_tfci, &mut lent_fbi, &mut lent_out);
-        let out = expected.as_deref().ok();
-        let runs = [lent_tfci.kept("tfci"), lent_fbi.kept("fbi"), lent_out.after("out", out)];
-        judge.compare("slt_dpcch_map", || self.in_words(), Answer::of(&expected), got, runs);
+        let mut tfci = judge.given("tfci", self.tfci.as_deref());
+        let mut fbi = judge.given("fbi", self.fbi.as_deref());
+        let mut out = judge.room("out", self.room, expected.as_deref().ok());
+        let got = ffi::dpcch_map(self.number, self.slot, self.tpc, &mut tfci, &mut fbi, &mut out);
+        let numbers = || format!("format {}, slot {}, tpc {}", self.number, self.slot, self.tpc);
+        judge.compare("slt_dpcch_map", numbers, Answer::of(&expected), got, [&tfci, &fbi, &out]);
         expected.ok()
     }
 
@@ -96,12 +73,6 @@ impl Map {
     fn expected(&self) -> Result<Vec<u8>, crate::answer::Refusal> {
         let (tfci, fbi) = (self.tfci.as_deref().unwrap_or(&[]), self.fbi.as_deref().unwrap_or(&[]));
         rules::map(self.number, self.slot, self.tpc, tfci, fbi, self.room.unwrap_or(0))
-    }
-
-    fn in_words(&self) -> String {
-        let (tfci, fbi) = (shortened(self.tfci.as_deref()), shortened(self.fbi.as_deref()));
-        let numbers = format!("format {}, slot {}, tpc {}", self.number, self.slot, self.tpc);
-        format!("{numbers}, tfci {tfci}, fbi {fbi}, out {}", room_in_words(self.room))
     }
 }
 
@@ -121,25 +92,15 @@ impl Read {
         let run = self.run.as_deref();
         let (n_tfci, n_fbi) = (self.tfci.unwrap_or(0), self.fbi.unwrap_or(0));
         let outcome = rules::read(self.number, self.slot, run.unwrap_or(&[]), n_tfci, n_fbi);
-        let mut lent_run = Lent::holding(run, judge.salt());
-        let mut lent_tfci = Lent::room(self.tfci, judge.salt());
-        let mut lent_fbi = Lent::room(self.fbi, judge.salt());
-        let got = ffi::dpcch_read(self.number, self.slot, &mut lent_run, &mut lent_tfci, &mut lent_fbi);
-        let expected = match &outcome {
-            Ok(fields) => Answer::done(fields.tpc.into()),
-            Err(refusal) => Answer::refused(*refusal),
-        };
-        let fields = outcome.ok();
-        let (tfci, fbi) = (fields.as_ref().map(|f| &f.tfci[..]), fields.as_ref().map(|f| &f.fbi[..]));
-        let runs = [lent_run.kept("run"), lent_tfci.after("tfci", tfci), lent_fbi.after("fbi", fbi)];
-        judge.compare("slt_dpcch_read", || self.in_words(), expected, got, runs);
-        fields
-    }
-
-    fn in_words(&self) -> String {
-        let (tfci, fbi) = (room_in_words(self.tfci), room_in_words(self.fbi));
-        let run = shortened(self.run.as_deref());
-        format!("format {}, slot {}, run {run}, tfci {tfci}, fbi {fbi}", self.number, self.slot)
+        let expected = Answer::telling(&outcome, |fields| fields.tpc.into());
+        let fields = outcome.as_ref().ok();
+        let mut run = judge.given("run", run);
+        let mut tfci = judge.room("tfci", self.tfci, fields.map(|fields| &fields.tfci[..]));
+        let mut fbi = judge.room("fbi", self.fbi, fields.map(|fields| &fields.fbi[..]));
+        let got = ffi::dpcch_read(self.number, self.slot, &mut run, &mut tfci, &mut fbi);
+        let numbers = || format!("format {}, slot {}", self.number, self.slot);
+        judge.compare("slt_dpcch_read", numbers, expected, got, [&run, &tfci, &fbi]);
+        outcome.ok()
     }
 }
 

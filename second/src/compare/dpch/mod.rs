@@ -6,11 +6,10 @@ mod read;
 use crate::answer::Answer;
 use crate::ffi;
 use crate::fields::{NO_DIGITS, break_tfci, lengths_of, put_somewhere, random_tfci};
-use crate::judge::{Judge, room_in_words, shortened};
-use crate::lent::Lent;
+use crate::judge::Judge;
 use crate::random::Random;
 use crate::rules::dpch::{self as rules, Fields};
-pub use read::spoil_tpc;
+pub use read::{spoil_slot, spoil_tpc};
 
 /// The first bad formats, and numbers that look like a good one to a program that keeps too few bits.
 pub const BAD_FORMATS: [usize; 14] = [
@@ -52,8 +51,6 @@ pub fn all(judge: &mut Judge) {
         read::as_another_slot(judge, number);
         read::wrong_lengths(judge, number);
     }
-    judge.must_have_seen("slt_slot_map", &[0, 1, 2, 3, 4, 5, 6]);
-    judge.must_have_seen("slt_slot_read", &[0, 1, 2, 3, 4, 5, 6, 7]);
 }
 
 // One call each, compared.
@@ -75,26 +72,13 @@ impl Map {
         let (data, tfci) = (self.data.as_deref(), self.tfci.as_deref());
         let (data_run, tfci_run, n_out) = (data.unwrap_or(&[]), tfci.unwrap_or(&[]), self.room.unwrap_or(0));
         let expected = rules::map(self.number, self.slot, self.tpc, data_run, tfci_run, n_out);
-        let mut lent_data = Lent::holding(data, judge.salt());
-        let mut lent_tfci = Lent::holding(tfci, judge.salt());
-        let mut lent_out = Lent::room(self.room, judge.salt());
-        let got =
-            ffi::slot_map(self.number, self.slot, self.tpc, &mut lent_data, &mut lent_tfci, &mut lent_out);
-        let out = expected.as_deref().ok();
-        judge.compare(
-            "slt_slot_map",
-            || self.in_words(),
-            Answer::of(&expected),
-            got,
-            [lent_data.kept("data"), lent_tfci.kept("tfci"), lent_out.after("out", out)],
-        );
+        let mut data = judge.given("data", data);
+        let mut tfci = judge.given("tfci", tfci);
+        let mut out = judge.room("out", self.room, expected.as_deref().ok());
+        let got = ffi::slot_map(self.number, self.slot, self.tpc, &mut data, &mut tfci, &mut out);
+        let numbers = || format!("format {}, slot {}, tpc {}", self.number, self.slot, self.tpc);
+        judge.compare("slt_slot_map", numbers, Answer::of(&expected), got, [&data, &tfci, &out]);
         expected.ok()
-    }
-
-    fn in_words(&self) -> String {
-        let (data, tfci) = (shortened(self.data.as_deref()), shortened(self.tfci.as_deref()));
-        let numbers = format!("format {}, slot {}, tpc {}", self.number, self.slot, self.tpc);
-        format!("{numbers}, data {data}, tfci {tfci}, out {}", room_in_words(self.room))
     }
 }
 
@@ -114,25 +98,15 @@ impl Read {
         let run = self.run.as_deref();
         let (n_data, n_tfci) = (self.data.unwrap_or(0), self.tfci.unwrap_or(0));
         let outcome = rules::read(self.number, self.slot, run.unwrap_or(&[]), n_data, n_tfci);
-        let mut lent_run = Lent::holding(run, judge.salt());
-        let mut lent_data = Lent::room(self.data, judge.salt());
-        let mut lent_tfci = Lent::room(self.tfci, judge.salt());
-        let got = ffi::slot_read(self.number, self.slot, &mut lent_run, &mut lent_data, &mut lent_tfci);
-        let expected = match &outcome {
-            Ok(fields) => Answer::done(fields.tpc.into()),
-            Err(refusal) => Answer::refused(*refusal),
-        };
-        let fields = outcome.ok();
-        let (data, tfci) = (fields.as_ref().map(|f| &f.data[..]), fields.as_ref().map(|f| &f.tfci[..]));
-        let runs = [lent_run.kept("run"), lent_data.after("data", data), lent_tfci.after("tfci", tfci)];
-        judge.compare("slt_slot_read", || self.in_words(), expected, got, runs);
-        fields
-    }
-
-    fn in_words(&self) -> String {
-        let (data, tfci) = (room_in_words(self.data), room_in_words(self.tfci));
-        let run = shortened(self.run.as_deref());
-        format!("format {}, slot {}, run {run}, data {data}, tfci {tfci}", self.number, self.slot)
+        let expected = Answer::telling(&outcome, |fields| fields.tpc.into());
+        let fields = outcome.as_ref().ok();
+        let mut run = judge.given("run", run);
+        let mut data = judge.room("data", self.data, fields.map(|fields| &fields.data[..]));
+        let mut tfci = judge.room("tfci", self.tfci, fields.map(|fields| &fields.tfci[..]));
+        let got = ffi::slot_read(self.number, self.slot, &mut run, &mut data, &mut tfci);
+        let numbers = || format!("format {}, slot {}", self.number, self.slot);
+        judge.compare("slt_slot_read", numbers, expected, got, [&run, &data, &tfci]);
+        outcome.ok()
     }
 }
 

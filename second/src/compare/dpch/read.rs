@@ -3,6 +3,7 @@
 use super::*;
 use std::collections::HashMap;
 use crate::compare::lengths;
+use crate::rules::dpch::Format;
 
 /// Formats 0 and 1 in every slot: every string of ten over 0, 1 and DTX. What is accepted must be exactly what some
 /// fields give, and the fields must be those: worked out by mapping all fields there are.
@@ -95,22 +96,28 @@ pub fn random_damage(judge: &mut Judge, number: usize) {
 
 /// One of the faults a read can have, in the order of the checks. `number` is the format the run was made for.
 fn spoil_read(call: &mut Read, fault: usize, number: usize, random: &mut Random) {
-    let format = lengths_of(number);
-    let digits = call.run.as_deref_mut().unwrap_or(&mut []);
     match fault {
         0 => call.number = random.pick(&BAD_FORMATS),
         1 => call.slot = random.pick(&BAD_SLOTS),
         2 => change_length(&mut call.run, random),
         3 => call.data = other_length(call.data, random),
         4 => call.tfci = other_length(call.tfci, random),
-        5 => put_somewhere(digits, &NO_DIGITS, random),
-        6 => spoil_tpc(&mut digits[format.tpc_at()..format.tfci_at()], random),
-        7 => break_tfci(&mut digits[format.tfci_at()..format.data2_at()], random),
-        8 => {
+        _ => spoil_slot(call.run.as_mut().unwrap(), &lengths_of(number), fault - 5, random),
+    }
+}
+
+/// One of the faults that the digits of a slot can have, in the order of the checks: a digit that is none, TPC digits that
+/// are DTX or unlike, TFCI digits of two kinds, a pilot of another slot.
+pub fn spoil_slot(digits: &mut [u8], format: &Format, fault: usize, random: &mut Random) {
+    match fault {
+        0 => put_somewhere(digits, &NO_DIGITS, random),
+        1 => spoil_tpc(&mut digits[format.tpc_at()..format.tfci_at()], random),
+        2 => break_tfci(&mut digits[format.tfci_at()..format.data2_at()], random),
+        3 => {
             let index = format.pilot_at() + random.below(format.pilot);
             digits[index] = (digits[index] + 1 + random.below(2) as u8) % 3;
         }
-        _ => unreachable!("nine faults"),
+        _ => unreachable!("four faults"),
     }
 }
 

@@ -1,0 +1,11 @@
+pub mod Laws
+pub mod Verdicts
+pub mod Paging
+pub mod Downlink
+pub mod Uplink
+pub mod Antennas
+pub mod Lengths
+pub mod Access
+pub mod Samples
+pub mod Banks
+pub mod Exact
