@@ -30,6 +30,12 @@ static inline size_t bank_total(const uint8_t *bank, size_t n_bank) {
     return total < BANK_HEAD || total > n_bank ? 0 : total;
 }
 
+/* A bank with no slot, over the front of its buffer. */
+static inline void put_empty(uint8_t *bank) {
+    memcpy(bank, "SLTB", 4);
+    put_total(bank, BANK_HEAD);
+}
+
 /* A slot more behind the total. */
 static inline void put_slot(uint8_t *bank, size_t total, size_t number, const uint8_t *slot, size_t n_slot) {
     bank[total] = (uint8_t)number;

@@ -1,4 +1,4 @@
-/* A bank of 200 slots of 80 digits: store, fetch and drop. */
+/* A bank of 200 slots of 80 digits, and the call that empties one. */
 #include "bank.h"
 #include "draw.h"
 #include "row.h"
@@ -27,9 +27,12 @@ ANEW(slt)
 ANEW(tight)
 ANEW(plain)
 
+WAYS(bank_empty, bank_row, r->bank, r->n_bank)
 WAYS(bank_store_anew, bank_row, r, r->numbers[i % SETS])
 WAYS(bank_fetch, bank_row, r->bank, r->n_bank, r->numbers[i % SETS], r->out, r->n_slot)
 WAYS(bank_drop_anew, bank_row, r, r->numbers[i % SETS])
+WAYS(bank_length, bank_row, r->bank, r->n_bank, r->numbers[i % SETS])
+WAYS(bank_room, bank_row, r->bank, r->n_bank)
 
 static void draw_bank(struct bank_row *r) {
     memcpy(r->bank, "SLTB", 4);
@@ -58,12 +61,22 @@ static void draw_from_number(void *context, size_t first) {
     for (size_t i = 0; i < SETS; i++) r->numbers[i] = damaged_number(first + draw_below(first == HELD ? BANK_NUMBERS - HELD : HELD));
 }
 
+/* The smallest buffer: one byte fewer is refused, one more is not, so its length is damaged twice as often as others. */
+static void draw_buffer(void *context, size_t length) {
+    struct bank_row *r = context;
+    draw_bank(r);
+    r->n_bank = damaged_length(damaged_length(length));
+}
+
 static struct bank_row context;
 
 static const struct row ROWS[] = {
+    {"bank empty", &bank_empty, draw_buffer, &context, sizeof context, BANK_HEAD, BANK_HEAD},
     {"bank store, 200 slots of 80", &bank_store_anew, draw_from_number, &context, sizeof context, HELD, FULL},
     {"bank fetch, 200 slots of 80", &bank_fetch, draw_from_number, &context, sizeof context, 0, FULL},
     {"bank drop, 200 slots of 80", &bank_drop_anew, draw_from_number, &context, sizeof context, 0, FULL},
+    {"bank length, 200 slots of 80", &bank_length, draw_from_number, &context, sizeof context, 0, FULL},
+    {"bank room, 200 slots of 80", &bank_room, draw_from_number, &context, sizeof context, 0, FULL},
 };
 
 void bench_bank(void) {

@@ -19,6 +19,12 @@ static size_t checked_total(const uint8_t *bank, size_t n_bank) {
     return total;
 }
 
+uint64_t plain_bank_empty(uint8_t *bank, size_t n_bank) {
+    if (n_bank < BANK_HEAD || n_bank > BANK_MOST) return refuse(28, 0);
+    put_empty(bank);
+    return 0;
+}
+
 uint64_t plain_bank_store(uint8_t *bank, size_t n_bank, size_t number, const uint8_t *slot, size_t n_slot) {
     size_t total = checked_total(bank, n_bank);
     if (total == 0) return refuse(28, 0);
@@ -53,4 +59,19 @@ uint64_t plain_bank_drop(uint8_t *bank, size_t n_bank, size_t number) {
     memmove(bank + at, bank + at + size, total - at - size);
     put_total(bank, total - size);
     return 0;
+}
+
+uint64_t plain_bank_length(const uint8_t *bank, size_t n_bank, size_t number) {
+    size_t total = checked_total(bank, n_bank);
+    if (total == 0) return refuse(28, 0);
+    if (number >= BANK_NUMBERS) return refuse(11, 0);
+    size_t at = bank_find(bank, total, number);
+    if (at == total) return refuse(29, 0);
+    return (uint64_t)two_bytes(bank + at + 2) << 48;
+}
+
+uint64_t plain_bank_room(const uint8_t *bank, size_t n_bank) {
+    size_t total = checked_total(bank, n_bank);
+    if (total == 0) return refuse(28, 0);
+    return (uint64_t)(n_bank - total) << 48;
 }

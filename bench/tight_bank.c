@@ -20,6 +20,12 @@ static size_t checked_total(const uint8_t *bank, size_t n_bank) {
     return total != 0 && is_bank(bank, total) ? total : 0;
 }
 
+uint64_t tight_bank_empty(uint8_t *bank, size_t n_bank) {
+    if (n_bank - BANK_HEAD > BANK_MOST - BANK_HEAD) return plain_bank_empty(bank, n_bank);
+    put_empty(bank);
+    return 0;
+}
+
 uint64_t tight_bank_store(uint8_t *bank, size_t n_bank, size_t number, const uint8_t *slot, size_t n_slot) {
     size_t total = checked_total(bank, n_bank);
     if (total == 0 || number >= BANK_NUMBERS || n_slot < SLOT_LEAST || n_slot > SLOT_MOST || any_above(slot, n_slot, 2)
@@ -46,4 +52,16 @@ uint64_t tight_bank_drop(uint8_t *bank, size_t n_bank, size_t number) {
     memmove(bank + at, bank + at + size, total - at - size);
     put_total(bank, total - size);
     return 0;
+}
+
+uint64_t tight_bank_length(const uint8_t *bank, size_t n_bank, size_t number) {
+    size_t total = checked_total(bank, n_bank);
+    size_t at = bank_find(bank, total, number);
+    if (total == 0 || at >= total) return plain_bank_length(bank, n_bank, number);
+    return (uint64_t)two_bytes(bank + at + 2) << 48;
+}
+
+uint64_t tight_bank_room(const uint8_t *bank, size_t n_bank) {
+    size_t total = checked_total(bank, n_bank);
+    return total != 0 ? (uint64_t)(n_bank - total) << 48 : plain_bank_room(bank, n_bank);
 }

@@ -84,9 +84,12 @@
     slt_sample whose##_sample_off(int64_t i, int64_t q, size_t antenna);                                                        \
     slt_sample whose##_sample_shared(int64_t i, int64_t q, float level, size_t antenna);                                        \
     slt_sample whose##_sample_each(int64_t i, int64_t q, float first, float second, size_t antenna);                            \
+    uint64_t whose##_bank_empty(uint8_t *bank, size_t n_bank);                                                                  \
     uint64_t whose##_bank_store(uint8_t *bank, size_t n_bank, size_t number, const uint8_t *slot, size_t n_slot);               \
     uint64_t whose##_bank_fetch(const uint8_t *bank, size_t n_bank, size_t number, uint8_t *out, size_t n_out);                 \
-    uint64_t whose##_bank_drop(uint8_t *bank, size_t n_bank, size_t number);
+    uint64_t whose##_bank_drop(uint8_t *bank, size_t n_bank, size_t number);                                                    \
+    uint64_t whose##_bank_length(const uint8_t *bank, size_t n_bank, size_t number);                                            \
+    uint64_t whose##_bank_room(const uint8_t *bank, size_t n_bank);
 
 YARDSTICK(plain)
 YARDSTICK(tight)
