@@ -4,27 +4,31 @@
 #
 #     TMPDIR=$(setup/room.sh) rt ..
 #
-# /dev/shm will do where it is memory (a tmpfs), can be written, lets programs run, and has 4 GB free: a check was seen to take up to half a GB, and eight go
+# /dev/shm will do where it is memory (a tmpfs), can be written, lets programs run, and has 4 GB free: a check was seen to take up to half a GB there, and eight go
 # at a time. Programs must run there, and everybody may go in, since rt runs compiled ones in a folder that it makes there, as nobody. Else it is where TMPDIR says, or
-# /tmp. A tmpfs tells what it may take, not what the machine has left, so memory is asked for as well. MOUNTS and MEMORY name other files than the system's in the test of
-# this script.
+# /tmp. A tmpfs tells what it may take, not what the machine has left: that must be 12 GB, since the checks themselves need memory beside their files, most of them half
+# a GB and one 3 GB. MOUNTS and MEMORY name other files than the system's in the test of this script.
 set -eu
 room=/dev/shm
-least=4194304 # kilobytes
+# kilobytes
+roomy=4194304
+spare=12582912
 
 mounted() {
     awk -v at="$room" '$2 == at { good = $3 == "tmpfs" && ("," $4 ",") !~ /,(noexec|ro),/ } END { exit !good }' "${MOUNTS:-/proc/mounts}"
 }
-# The least of what the directory and the memory have free.
+# Whether the directory and the memory have so much free.
 free() {
-    { df -Pk "$room" | awk 'NR == 2 { print $4 }'; awk '$1 == "MemAvailable:" { print $2 }' "${MEMORY:-/proc/meminfo}"; } | sort -n | head -n 1
+    there=$(df -Pk "$room" | awk 'NR == 2 { print $4 }')
+    left=$(awk '$1 == "MemAvailable:" { print $2 }' "${MEMORY:-/proc/meminfo}")
+    test "${there:-0}" -ge "$roomy" && test "${left:-0}" -ge "$spare"
 }
 
 open_to_all() {
     test -n "$(find "$room" -prune -perm -003)"
 }
 
-if mounted && open_to_all && test -w "$room" && test "$(free)" -ge "$least"; then
+if mounted && open_to_all && test -w "$room" && free; then
     echo "$room"
 else
     echo "${TMPDIR:-/tmp}"

@@ -40,14 +40,14 @@ free_in_shm() {
     chmod +x "$work/df"
 }
 free_in_shm 4194304
-if test -w /dev/shm && test -n "$(find /dev/shm -prune -perm -003)"; then room "$memory" 4194304 /dev/shm; fi
-room "$memory" 4194303 /somewhere
-room 'tmpfs /dev/shm tmpfs rw,noexec,relatime 0 0' 8388608 /somewhere
-room 'tmpfs /dev/shm tmpfs ro,relatime 0 0' 8388608 /somewhere
-room '/dev/sda1 /dev/shm ext4 rw 0 0' 8388608 /somewhere
-room 'tmpfs /run tmpfs rw 0 0' 8388608 /somewhere
+if test -w /dev/shm && test -n "$(find /dev/shm -prune -perm -003)"; then room "$memory" 12582912 /dev/shm; fi
+room "$memory" 12582911 /somewhere
+room 'tmpfs /dev/shm tmpfs rw,noexec,relatime 0 0' 16777216 /somewhere
+room 'tmpfs /dev/shm tmpfs ro,relatime 0 0' 16777216 /somewhere
+room '/dev/sda1 /dev/shm ext4 rw 0 0' 16777216 /somewhere
+room 'tmpfs /run tmpfs rw 0 0' 16777216 /somewhere
 free_in_shm 4194303
-room "$memory" 8388608 /somewhere
+room "$memory" 16777216 /somewhere
 rm "$work/df"
 test "$(env -u TMPDIR MOUNTS=/dev/null sh "$here/room.sh")" = /tmp || wrong "room.sh without TMPDIR does not print /tmp"
 echo "setup: another kit is told in one line, and rt has its temporary files in memory only where that will do"
