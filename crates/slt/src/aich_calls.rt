@@ -1,0 +1,39 @@
+// AICH: each call is that of the crate `slt_aich`, with the same promise.
+
+ghost use Rattle.slt_aich.specs.Outcome.{AichMap, AichRead, AichMapAvailable, AichReadAvailable};
+
+#[unsafe(no_mangle)]
+pub extern "C" fn slt_aich_map(indicators: &[i32], values: &mut [i32]) -> u64
+    ensures { AichMap indicators.now values.old result values.new }
+{
+    slt_aich::slt_aich_map(indicators, values)
+}
+
+#[unsafe(no_mangle)]
+pub extern "C" fn slt_aich_read(values: &[i32], indicators: &mut [i32]) -> u64
+    ensures { AichRead values.now indicators.old result indicators.new }
+{
+    slt_aich::slt_aich_read(values, indicators)
+}
+
+#[unsafe(no_mangle)]
+pub extern "C" fn slt_aich_map_available(
+    available: u16,
+    indicators: &[i32],
+    values: &mut [i32],
+) -> u64
+    ensures { AichMapAvailable available indicators.now values.old result values.new }
+{
+    slt_aich::slt_aich_map_available(available, indicators, values)
+}
+
+#[unsafe(no_mangle)]
+pub extern "C" fn slt_aich_read_available(
+    available: u16,
+    values: &[i32],
+    indicators: &mut [i32],
+) -> u64
+    ensures { AichReadAvailable available values.now indicators.old result indicators.new }
+{
+    slt_aich::slt_aich_read_available(available, values, indicators)
+}

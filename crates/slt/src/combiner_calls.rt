@@ -1,0 +1,18 @@
+// The AICH combiner: each call is that of the crate `slt_combiner`, with the same promise.
+
+ghost use Rattle.correlator.specs.Complexes.{cx};
+ghost use Rattle.slt_combiner.specs.Outcome.{AichCombine};
+
+#[unsafe(no_mangle)]
+pub extern "C" fn slt_aich_combine(
+    h1_re: i64,
+    h1_im: i64,
+    h2_re: i64,
+    h2_im: i64,
+    received: &[i32],
+    results: &mut [i64],
+) -> u64
+    ensures { AichCombine (cx h1_re h1_im) (cx h2_re h2_im) received.now results.old result results.new }
+{
+    slt_combiner::slt_aich_combine(h1_re, h1_im, h2_re, h2_im, received, results)
+}

@@ -1,0 +1,29 @@
+// DPCH frames: each call is that of the crate `slt_frame`, with the same promise.
+
+ghost use Rattle.slt_frame.specs.Outcome.{FrameMap, FrameRead};
+
+#[unsafe(no_mangle)]
+pub extern "C" fn slt_frame_map(
+    format: usize,
+    data: &[u8],
+    tfci: &[u8],
+    out: &mut [u8],
+    commands: &[u8],
+) -> u64
+    ensures { FrameMap format «data».now tfci.now out.old commands.now result out.new }
+{
+    slt_frame::slt_frame_map(format, data, tfci, out, commands)
+}
+
+#[unsafe(no_mangle)]
+pub extern "C" fn slt_frame_read(
+    format: usize,
+    frame: &[u8],
+    data: &mut [u8],
+    tfci: &mut [u8],
+    commands: &mut [u8],
+) -> u64
+    ensures { FrameRead format frame.now «data».old tfci.old commands.old result «data».new tfci.new commands.new }
+{
+    slt_frame::slt_frame_read(format, frame, data, tfci, commands)
+}

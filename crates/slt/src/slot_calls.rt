@@ -1,0 +1,30 @@
+// DPCH slots: each call is that of the crate `slt_slot`, with the same promise.
+
+ghost use Rattle.slt_slot.specs.Outcome.{SlotMap, SlotRead};
+
+#[unsafe(no_mangle)]
+pub extern "C" fn slt_slot_map(
+    format: usize,
+    slot: usize,
+    tpc: usize,
+    data: &[u8],
+    tfci: &[u8],
+    out: &mut [u8],
+) -> u64
+    ensures { SlotMap format slot tpc «data».now tfci.now out.old result out.new }
+{
+    slt_slot::slt_slot_map(format, slot, tpc, data, tfci, out)
+}
+
+#[unsafe(no_mangle)]
+pub extern "C" fn slt_slot_read(
+    format: usize,
+    slot: usize,
+    run: &[u8],
+    data: &mut [u8],
+    tfci: &mut [u8],
+) -> u64
+    ensures { SlotRead format slot run.now «data».old tfci.old result «data».new tfci.new }
+{
+    slt_slot::slt_slot_read(format, slot, run, data, tfci)
+}
