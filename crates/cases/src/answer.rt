@@ -1,55 +1,65 @@
 // An answer: ` -> done` or ` -> refused NUMBER PLACE`, and the runs that were lent, each behind its key.
 use crate::question;
-use libc::STDOUT_FILENO;
 use run::Verdict;
+use std::io;
 
-pub(crate) fn put(byte: u8) {
+pub(crate) fn put(rt: &impl Print, byte: u8) -> io::Result<()> {
     if byte < 10 {
-        io::print_decimal(STDOUT_FILENO, byte as u64);
+        print!(rt; "{byte}")
     } else {
-        let one = [byte];
-        io::write_all(STDOUT_FILENO, &one);
+        rt.write_all(&[byte])
     }
 }
 
 // Text in which a digit is what it is.
-pub(crate) fn text(text: &[u8]) {
+pub(crate) fn text(rt: &impl Print, text: &[u8]) -> io::Result<()> {
     let mut i = 0;
     while i < text.len() {
-        put(text[i]);
+        put(rt, text[i])?;
         i += 1;
     }
+    Ok(())
 }
 
-pub(crate) fn number(n: usize) {
-    io::print_decimal(STDOUT_FILENO, n as u64);
+pub(crate) fn number(rt: &impl Print, n: usize) -> io::Result<()> {
+    print!(rt; "{n}")
 }
 
-pub(crate) fn verdict(verdict: Verdict) {
+pub(crate) fn verdict(rt: &impl Print, verdict: Verdict) -> io::Result<()> {
     if verdict.number == 0 {
-        text(b" -> done");
+        text(rt, b" -> done")
     } else {
-        text(b" -> refused ");
-        number(verdict.number);
-        put(b' ');
-        number(verdict.place);
+        text(rt, b" -> refused ")?;
+        number(rt, verdict.number)?;
+        put(rt, b' ')?;
+        number(rt, verdict.place)
     }
 }
 
 // The key that stands so many keys before the question's last.
-pub(crate) fn key(line: &[u8], before: usize) {
+pub(crate) fn key(rt: &impl Print, line: &[u8], before: usize) -> io::Result<()> {
     let k = std::num::wrapping_sub_usize(question::last(line, before), 1);
     let words = question::piece(line, b'=', k);
-    put(b' ');
-    text(question::piece(words, b' ', question::count(words, b' ')));
-    put(b'=');
+    put(rt, b' ')?;
+    text(
+        rt,
+        question::piece(words, b' ', question::count(words, b' ')),
+    )?;
+    put(rt, b'=')
 }
 
-pub(crate) fn run(shown: bool, line: &[u8], before: usize, run: &[u8]) {
+pub(crate) fn run(
+    rt: &impl Print,
+    shown: bool,
+    line: &[u8],
+    before: usize,
+    run: &[u8],
+) -> io::Result<()> {
     if shown {
-        key(line, before);
-        text(run);
+        key(rt, line, before)?;
+        text(rt, run)?;
     }
+    Ok(())
 }
 
 // How large a number is, and 0 for one of more than twelve digits: no case has any.
@@ -64,22 +74,24 @@ fn size_of(v: i64) -> u64 {
 }
 
 // A number, behind a comma where it is not the first.
-fn signed(i: usize, v: i64) {
+fn signed(rt: &impl Print, i: usize, v: i64) -> io::Result<()> {
     if 0 < i {
-        put(b',');
+        put(rt, b',')?;
     }
     if v < 0 {
-        put(b'-');
+        put(rt, b'-')?;
     }
-    io::print_decimal(STDOUT_FILENO, size_of(v));
+    let size = size_of(v);
+    print!(rt; "{size}")
 }
 
-pub(crate) fn values(run: &[i64]) {
+pub(crate) fn values(rt: &impl Print, run: &[i64]) -> io::Result<()> {
     let mut i = 0;
     while i < run.len() {
-        signed(i, run[i]);
+        signed(rt, i, run[i])?;
         i += 1;
     }
+    Ok(())
 }
 
 // A float's bits, and those of one NaN for all.
@@ -88,6 +100,7 @@ fn pattern(x: f32) -> u32 {
 }
 
 // A float by its bits, so that no rounding and no sign of a zero is lost.
-pub(crate) fn float(x: f32) {
-    io::print_hex(STDOUT_FILENO, pattern(x) as u64, 8);
+pub(crate) fn float(rt: &impl Print, x: f32) -> io::Result<()> {
+    let bits = pattern(x);
+    print!(rt; "{bits:08x}")
 }

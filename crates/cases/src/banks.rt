@@ -4,6 +4,7 @@ use crate::question::{DIGITS, number, run};
 use crate::{answer, question};
 use bank::Counted;
 use run::Verdict;
+use std::io;
 
 // A call that is lent a run: the bank, and for a fetch the output.
 fn write(call: usize, line: &[u8], lent: &mut [u8]) -> Verdict {
@@ -15,30 +16,31 @@ fn write(call: usize, line: &[u8], lent: &mut [u8]) -> Verdict {
     }
 }
 
-fn tell(call: usize, line: &[u8], lent: &mut [u8]) {
-    answer::verdict(write(call, line, lent));
-    answer::run(true, line, 0, lent);
+fn tell(rt: &impl Print, call: usize, line: &[u8], lent: &mut [u8]) -> io::Result<()> {
+    answer::verdict(rt, write(call, line, lent))?;
+    answer::run(rt, true, line, 0, lent)
 }
 
-pub(crate) fn lend(call: usize, line: &[u8]) {
+pub(crate) fn lend(rt: &impl Print, call: usize, line: &[u8]) -> io::Result<()> {
     let mut lent = [0; DIGITS];
     let n = question::lend(line, 0, &mut lent);
-    tell(call, line, &mut lent[..n]);
+    tell(rt, call, line, &mut lent[..n])
 }
 
-fn count(counted: Counted, key: &[u8]) {
-    answer::verdict(counted.verdict);
-    answer::text(key);
-    answer::number(counted.count);
+fn count(rt: &impl Print, counted: Counted, key: &[u8]) -> io::Result<()> {
+    answer::verdict(rt, counted.verdict)?;
+    answer::text(rt, key)?;
+    answer::number(rt, counted.count)
 }
 
-pub(crate) fn length(line: &[u8]) {
+pub(crate) fn length(rt: &impl Print, line: &[u8]) -> io::Result<()> {
     count(
+        rt,
         bank_read::length_of(run(line, 1), number(line, 2)),
         b" length=",
-    );
+    )
 }
 
-pub(crate) fn room(line: &[u8]) {
-    count(bank_read::room(run(line, 1)), b" room=");
+pub(crate) fn room(rt: &impl Print, line: &[u8]) -> io::Result<()> {
+    count(rt, bank_read::room(run(line, 1)), b" room=")
 }

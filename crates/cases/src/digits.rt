@@ -3,6 +3,7 @@ use crate::question::{DIGITS, number, run};
 use crate::{answer, question, uplink};
 use pich::Pi;
 use run::Verdict;
+use std::io;
 
 fn slot_map(line: &[u8], out: &mut [u8]) -> Verdict {
     slot_map::map(
@@ -77,14 +78,14 @@ fn write_one(call: usize, line: &[u8], out: &mut [u8]) -> Verdict {
     }
 }
 
-fn slot_read(line: &[u8], tfci: &mut [u8], data: &mut [u8]) {
+fn slot_read(rt: &impl Print, line: &[u8], tfci: &mut [u8], data: &mut [u8]) -> io::Result<()> {
     let command = slot_read::read(number(line, 1), number(line, 2), run(line, 3), data, tfci);
-    answer::verdict(command.verdict);
-    answer::text(b" TPC=");
-    answer::number(command.tpc);
+    answer::verdict(rt, command.verdict)?;
+    answer::text(rt, b" TPC=")?;
+    answer::number(rt, command.tpc)
 }
 
-fn antennas_read(line: &[u8], tfci: &mut [u8], data: &mut [u8]) {
+fn antennas_read(rt: &impl Print, line: &[u8], tfci: &mut [u8], data: &mut [u8]) -> io::Result<()> {
     let command = antenna_read::read(
         number(line, 1),
         number(line, 2),
@@ -93,56 +94,93 @@ fn antennas_read(line: &[u8], tfci: &mut [u8], data: &mut [u8]) {
         data,
         tfci,
     );
-    answer::verdict(command.verdict);
-    answer::text(b" TPC=");
-    answer::number(command.tpc);
+    answer::verdict(rt, command.verdict)?;
+    answer::text(rt, b" TPC=")?;
+    answer::number(rt, command.tpc)
 }
 
-fn pccpch_map(line: &[u8], antenna1: &mut [u8], antenna2: &mut [u8]) {
-    answer::verdict(pccpch::map(run(line, 1), antenna1, antenna2));
+fn pccpch_map(
+    rt: &impl Print,
+    line: &[u8],
+    antenna1: &mut [u8],
+    antenna2: &mut [u8],
+) -> io::Result<()> {
+    answer::verdict(rt, pccpch::map(run(line, 1), antenna1, antenna2))
 }
 
-fn frame_read(line: &[u8], commands: &mut [u8], tfci: &mut [u8], data: &mut [u8]) {
-    answer::verdict(frame_read::read(number(line, 1), run(line, 2), data, tfci, commands));
+fn frame_read(
+    rt: &impl Print,
+    line: &[u8],
+    commands: &mut [u8],
+    tfci: &mut [u8],
+    data: &mut [u8],
+) -> io::Result<()> {
+    answer::verdict(
+        rt,
+        frame_read::read(number(line, 1), run(line, 2), data, tfci, commands),
+    )
 }
 
-fn compressed_read(line: &[u8], commands: &mut [u8], tfci: &mut [u8], data: &mut [u8]) {
-    answer::verdict(compressed_read::read(
-        number(line, 1),
-        number(line, 2),
-        number(line, 3),
-        number(line, 4),
-        run(line, 5),
-        data,
-        tfci,
-        commands,
-    ));
+fn compressed_read(
+    rt: &impl Print,
+    line: &[u8],
+    commands: &mut [u8],
+    tfci: &mut [u8],
+    data: &mut [u8],
+) -> io::Result<()> {
+    answer::verdict(
+        rt,
+        compressed_read::read(
+            number(line, 1),
+            number(line, 2),
+            number(line, 3),
+            number(line, 4),
+            run(line, 5),
+            data,
+            tfci,
+            commands,
+        ),
+    )
 }
 
 // The call with the runs that it is lent, which are the question's last ones.
-fn write(call: usize, line: &[u8], first: &mut [u8], second: &mut [u8], third: &mut [u8]) {
+fn write(
+    rt: &impl Print,
+    call: usize,
+    line: &[u8],
+    first: &mut [u8],
+    second: &mut [u8],
+    third: &mut [u8],
+) -> io::Result<()> {
     match call {
-        question::SLOT_READ => slot_read(line, second, third),
-        question::ANTENNAS_READ => antennas_read(line, second, third),
-        question::PCCPCH_MAP => pccpch_map(line, second, third),
-        question::DPCCH_READ => uplink::read(line, second, third),
-        question::FRAME_READ => frame_read(line, first, second, third),
-        question::DPCCH_FRAME_READ => uplink::frame_read(line, first, second, third),
-        question::COMPRESSED_READ => compressed_read(line, first, second, third),
-        _ => answer::verdict(write_one(call, line, third)),
+        question::SLOT_READ => slot_read(rt, line, second, third),
+        question::ANTENNAS_READ => antennas_read(rt, line, second, third),
+        question::PCCPCH_MAP => pccpch_map(rt, line, second, third),
+        question::DPCCH_READ => uplink::read(rt, line, second, third),
+        question::FRAME_READ => frame_read(rt, line, first, second, third),
+        question::DPCCH_FRAME_READ => uplink::frame_read(rt, line, first, second, third),
+        question::COMPRESSED_READ => compressed_read(rt, line, first, second, third),
+        _ => answer::verdict(rt, write_one(call, line, third)),
     }
 }
 
 // The answer: a call that is lent fewer than three runs leaves the others alone, and they are not its.
-fn tell(call: usize, line: &[u8], first: &mut [u8], second: &mut [u8], third: &mut [u8]) {
-    write(call, line, first, second, third);
-    answer::run(question::FRAME_READ <= call, line, 2, first);
-    answer::run(question::SLOT_READ <= call, line, 1, second);
-    answer::run(true, line, 0, third);
+fn tell(
+    rt: &impl Print,
+    call: usize,
+    line: &[u8],
+    first: &mut [u8],
+    second: &mut [u8],
+    third: &mut [u8],
+) -> io::Result<()> {
+    write(rt, call, line, first, second, third)?;
+    answer::run(rt, question::FRAME_READ <= call, line, 2, first)?;
+    answer::run(rt, question::SLOT_READ <= call, line, 1, second)?;
+    answer::run(rt, true, line, 0, third)
 }
 
 // Lends copies of the question's last three runs.
-pub(crate) fn lend(call: usize, line: &[u8]) {
+pub(crate) fn lend(rt: &impl Print, call: usize, line: &[u8]) -> io::Result<()> {
     let mut first = [0; DIGITS];
     let n = question::lend(line, 2, &mut first);
     let mut second = [0; DIGITS];
@@ -150,18 +188,19 @@ pub(crate) fn lend(call: usize, line: &[u8]) {
     let mut third = [0; DIGITS];
     let l = question::lend(line, 0, &mut third);
     tell(
+        rt,
         call,
         line,
         &mut first[..n],
         &mut second[..m],
         &mut third[..l],
-    );
+    )
 }
 
-pub(crate) fn q(line: &[u8]) {
+pub(crate) fn q(rt: &impl Print, line: &[u8]) -> io::Result<()> {
     let paging = pich::q(number(line, 1), Pi(number(line, 3)), number(line, 2));
     let q = paging.q;
-    answer::verdict(paging.verdict);
-    answer::text(b" q=");
-    answer::number(q.0);
+    answer::verdict(rt, paging.verdict)?;
+    answer::text(rt, b" q=")?;
+    answer::number(rt, q.0)
 }

@@ -1,7 +1,6 @@
 // Runs that are long, and so are said by what they repeat: `0110*960` is 0110 over and over, 960 digits in all; such parts, and digits as they are, follow each other
 // with commas between them.
-ghost use Rattle.std.specs.Prelude.{◌≤◌, length};
-ghost use Rattle.io.specs.Counts.{IsPrefixLen};
+ghost use Rattle.std.specs.Prelude.{◌≡◌, ◌≤◌, length, take};
 
 use crate::question;
 use crate::question::piece;
@@ -36,7 +35,7 @@ fn part(text: &[u8], to: &mut [u8]) -> usize
 
 // One part after the other.
 pub(crate) fn unfold(text: &[u8], to: &mut [u8]) -> usize
-    ensures { IsPrefixLen result to.new }
+    ensures { (result ≤ length to.new) × (result ≡ length (take result to.new)) }
 {
     let mut n = 0;
     let mut k = 0;

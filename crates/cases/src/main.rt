@@ -4,77 +4,103 @@
 //
 // The names say where a case is from: P1 to P12 are the marked examples, `other` the other examples, `refusal N` a row of the table of
 // numbers, `slip` a slip that has been seen, `done` any other call that is done.
+#![tactic(auto)]
+
+ghost use Rattle.std.specs.Prelude.{ℕ, ◌<◌, ◌≤◌, List, length, take, IfOk, OnErr};
+ghost use Rattle.std.specs.Io.{ReadsAtMost};
+ghost use Rattle.std.specs.Io.KnownBytes.{Consumes, IsAtEnd};
+
 mod access;
 mod answer;
 mod banks;
 mod digits;
-mod hspdsch;
 mod jobs;
 mod long;
 mod question;
 mod samples;
+mod subframes;
 mod told;
 mod uplink;
 mod values;
 mod wakes;
 
-use libc::STDIN_FILENO;
+use std::io;
+use std::io::Read;
 
-fn ask(call: usize, line: &[u8]) {
+fn ask(rt: &impl Print, call: usize, line: &[u8]) -> io::Result<()> {
     match call {
-        question::SLOT_MAP..=question::COMPRESSED_READ => digits::lend(call, line),
-        question::PICH_Q => digits::q(line),
-        question::AICH_MAP..=question::STTD_VALUES => values::lend(call, line),
-        question::AICH_COMBINE => values::lend_results(line),
-        question::SAMPLE => samples::take(line),
-        question::HSPDSCH_MAP..=question::HSPDSCH_READ => hspdsch::lend(call, line),
-        question::DESK_SERVE => access::serve(line),
-        question::DESK_TO_AICH => access::to_aich(line),
-        question::DESK_TO_MESSAGE => access::to_message(line),
-        question::WAKE_RUN..=question::WAKE_STEP => wakes::ask(call, line),
-        question::BANK_EMPTY..=question::BANK_FETCH => banks::lend(call, line),
-        question::BANK_LENGTH => banks::length(line),
-        question::BANK_ROOM => banks::room(line),
-        question::SLOT_LENGTHS..=question::HSPDSCH_LENGTHS => told::of(call, line),
-        question::COMPRESSED_LENGTHS => told::of_compressed(line),
-        _ => answer::text(b" -> no such call"),
+        question::SLOT_MAP..=question::COMPRESSED_READ => digits::lend(rt, call, line),
+        question::PICH_Q => digits::q(rt, line),
+        question::AICH_MAP..=question::STTD_VALUES => values::lend(rt, call, line),
+        question::AICH_COMBINE => values::lend_results(rt, line),
+        question::SAMPLE => samples::take(rt, line),
+        question::HSPDSCH_MAP..=question::HSPDSCH_READ => subframes::lend(rt, call, line),
+        question::DESK_SERVE => access::serve(rt, line),
+        question::DESK_TO_AICH => access::to_aich(rt, line),
+        question::DESK_TO_MESSAGE => access::to_message(rt, line),
+        question::WAKE_RUN..=question::WAKE_STEP => wakes::ask(rt, call, line),
+        question::BANK_EMPTY..=question::BANK_FETCH => banks::lend(rt, call, line),
+        question::BANK_LENGTH => banks::length(rt, line),
+        question::BANK_ROOM => banks::room(rt, line),
+        question::SLOT_LENGTHS..=question::HSPDSCH_LENGTHS => told::of(rt, call, line),
+        question::COMPRESSED_LENGTHS => told::of_compressed(rt, line),
+        _ => answer::text(rt, b" -> no such call"),
     }
 }
 
 // The line of a question is ended by its answer, but what a job prints comes on lines of its own.
-fn answered(line: &[u8]) {
+fn answered(rt: &impl Print, line: &[u8]) -> io::Result<()> {
     let call = question::call(line);
-    answer::text(line);
+    answer::text(rt, line)?;
     if call == question::JOB {
-        answer::put(b'\n');
-        jobs::lend(question::run(line, 1));
+        answer::put(rt, b'\n')?;
+        jobs::lend(rt, question::run(line, 1))
     } else {
-        ask(call, line);
-        answer::put(b'\n');
+        ask(rt, call, line)?;
+        answer::put(rt, b'\n')
     }
 }
 
-fn questions(text: &[u8]) {
+fn questions(rt: &impl Print, text: &[u8]) -> io::Result<()> {
     let lines = question::count(text, b'\n');
     let mut k = 0;
     while k < lines {
-        answered(question::piece(text, b'\n', k));
+        answered(rt, question::piece(text, b'\n', k))?;
         k += 1;
     }
+    Ok(())
 }
 
 // Answers each line of a text, once the letters of its digits are the digits themselves.
-fn decode(text: &mut [u8]) {
+fn decode(rt: &impl Print, text: &mut [u8]) -> io::Result<()> {
     let mut i = 0;
     while i < text.len() {
         text[i] = question::digit(text[i]);
         i += 1;
     }
-    questions(text);
+    questions(rt, text)
 }
 
-fn main() {
-    let mut buffer = io::large_buffer();
-    let n = io::read_full(STDIN_FILENO, &mut buffer);
-    decode(&mut buffer[..n]);
+// Reads until the buffer is full or the input ends, and answers how many bytes that are.
+fn read_full<R: Read>(input: &mut R, buffer: &mut [u8]) -> io::Result<usize>
+    ensures bound { ReadsAtMost result buffer.new }
+    ensures bytes { IfOk result (λ n. Consumes (R.remaining input.old) (R.remaining input.new) (take n buffer.new)) }
+    ensures end { IfOk result (λ n. n < length buffer.old → IsAtEnd (R.remaining input.new)) }
+    ensures err { OnErr result ((bytes : List ℕ) × Consumes (R.remaining input.old) (R.remaining input.new) bytes × (length bytes ≤ length buffer.old)) }
+{
+    let mut done = 0;
+    while done < buffer.len() {
+        let n = input.read(&mut buffer[done..])?;
+        if n == 0 {
+            return Ok(done);
+        }
+        done += n;
+    }
+    Ok(done)
+}
+
+fn main(rt: HostRuntime) -> io::Result<()> {
+    let mut buffer = [0u8; 65536];
+    let n = read_full(&mut rt.stdin(), &mut buffer)?;
+    decode(&rt, &mut buffer[..n])
 }

@@ -6,7 +6,6 @@
 //
 // Nothing is refused here: what is missing is empty, what is no digit counts as 0, a number too long stops growing, a run too long is cut.
 ghost use Rattle.std.specs.Prelude.{◌≡◌, ◌<◌, ◌≤◌, length, take};
-ghost use Rattle.io.specs.Counts.{IsPrefixLen};
 
 use run::shorter;
 
@@ -271,7 +270,7 @@ pub(crate) fn last(line: &[u8], before: usize) -> usize {
 
 // Copies the run that stands so many runs before the question's last.
 pub(crate) fn lend(line: &[u8], before: usize, to: &mut [u8]) -> usize
-    ensures { IsPrefixLen result to.new }
+    ensures { (result ≤ length to.new) × (result ≡ length (take result to.new)) }
 {
     let run = run(line, last(line, before));
     write::copy(to, run);

@@ -2,6 +2,7 @@
 use crate::question::{number, run, signed};
 use crate::{answer, question};
 use sample::Setting;
+use std::io;
 
 // The level of a pattern, which has no sign; NaN from infinity's on.
 fn level(setting: &[u8], k: usize) -> f32 {
@@ -22,7 +23,7 @@ fn setting(run: &[u8]) -> Setting {
     }
 }
 
-pub(crate) fn take(line: &[u8]) {
+pub(crate) fn take(rt: &impl Print, line: &[u8]) -> io::Result<()> {
     let values = run(line, 1);
     let sampled = sample::take(
         signed(values, 0),
@@ -31,9 +32,9 @@ pub(crate) fn take(line: &[u8]) {
         number(line, 3),
     );
     let sample = sampled.sample;
-    answer::verdict(sampled.verdict);
-    answer::text(b" sample=");
-    answer::float(sample.inphase);
-    answer::put(b',');
-    answer::float(sample.quadrature);
+    answer::verdict(rt, sampled.verdict)?;
+    answer::text(rt, b" sample=")?;
+    answer::float(rt, sample.inphase)?;
+    answer::put(rt, b',')?;
+    answer::float(rt, sample.quadrature)
 }

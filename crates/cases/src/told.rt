@@ -2,6 +2,7 @@
 use crate::question::number;
 use crate::{answer, question};
 use lengths::Length;
+use std::io;
 
 fn length(call: usize, line: &[u8]) -> Length {
     let format = number(line, 1);
@@ -17,22 +18,25 @@ fn length(call: usize, line: &[u8]) -> Length {
     }
 }
 
-fn tell(told: Length) {
-    answer::verdict(told.verdict);
-    answer::text(b" length=");
-    answer::number(told.length);
+fn tell(rt: &impl Print, told: Length) -> io::Result<()> {
+    answer::verdict(rt, told.verdict)?;
+    answer::text(rt, b" length=")?;
+    answer::number(rt, told.length)
 }
 
-pub(crate) fn of(call: usize, line: &[u8]) {
-    tell(length(call, line));
+pub(crate) fn of(rt: &impl Print, call: usize, line: &[u8]) -> io::Result<()> {
+    tell(rt, length(call, line))
 }
 
-pub(crate) fn of_compressed(line: &[u8]) {
-    tell(lengths::of_compressed(
-        number(line, 1),
-        number(line, 2),
-        number(line, 3),
-        number(line, 4),
-        number(line, 5),
-    ));
+pub(crate) fn of_compressed(rt: &impl Print, line: &[u8]) -> io::Result<()> {
+    tell(
+        rt,
+        lengths::of_compressed(
+            number(line, 1),
+            number(line, 2),
+            number(line, 3),
+            number(line, 4),
+            number(line, 5),
+        ),
+    )
 }

@@ -2,6 +2,7 @@
 use crate::question::{number, run};
 use crate::{answer, question};
 use run::Verdict;
+use std::io;
 
 fn map(line: &[u8], out: &mut [u8]) -> Verdict {
     dpcch_map::map(
@@ -43,13 +44,27 @@ pub(crate) fn write_one(call: usize, line: &[u8], out: &mut [u8]) -> Verdict {
     }
 }
 
-pub(crate) fn read(line: &[u8], tfci: &mut [u8], fbi: &mut [u8]) {
+pub(crate) fn read(
+    rt: &impl Print,
+    line: &[u8],
+    tfci: &mut [u8],
+    fbi: &mut [u8],
+) -> io::Result<()> {
     let command = dpcch_read::read(number(line, 1), number(line, 2), run(line, 3), tfci, fbi);
-    answer::verdict(command.verdict);
-    answer::text(b" TPC=");
-    answer::number(command.tpc);
+    answer::verdict(rt, command.verdict)?;
+    answer::text(rt, b" TPC=")?;
+    answer::number(rt, command.tpc)
 }
 
-pub(crate) fn frame_read(line: &[u8], commands: &mut [u8], tfci: &mut [u8], fbi: &mut [u8]) {
-    answer::verdict(dpcch_frame_read::read(number(line, 1), run(line, 2), tfci, fbi, commands));
+pub(crate) fn frame_read(
+    rt: &impl Print,
+    line: &[u8],
+    commands: &mut [u8],
+    tfci: &mut [u8],
+    fbi: &mut [u8],
+) -> io::Result<()> {
+    answer::verdict(
+        rt,
+        dpcch_frame_read::read(number(line, 1), run(line, 2), tfci, fbi, commands),
+    )
 }

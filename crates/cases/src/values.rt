@@ -2,6 +2,7 @@
 use crate::question::{VALUES, last, number, run, signed};
 use crate::{answer, question};
 use run::Verdict;
+use std::io;
 
 fn write(call: usize, available: u16, given: &[i32], out: &mut [i32]) -> Verdict {
     match call {
@@ -13,48 +14,57 @@ fn write(call: usize, available: u16, given: &[i32], out: &mut [i32]) -> Verdict
     }
 }
 
-fn tell(call: usize, line: &[u8], given: &[i32], out: &mut [i32]) {
+fn tell(
+    rt: &impl Print,
+    call: usize,
+    line: &[u8],
+    given: &[i32],
+    out: &mut [i32],
+) -> io::Result<()> {
     let available = (number(line, 1) % 65536) as u16;
-    answer::verdict(write(call, available, given, out));
-    answer::key(line, 0);
+    answer::verdict(rt, write(call, available, given, out))?;
+    answer::key(rt, line, 0)?;
     let mut shown = [0; VALUES];
     let n = question::widen(out, &mut shown);
-    answer::values(&shown[..n]);
+    answer::values(rt, &shown[..n])
 }
 
-pub(crate) fn lend(call: usize, line: &[u8]) {
+pub(crate) fn lend(rt: &impl Print, call: usize, line: &[u8]) -> io::Result<()> {
     let mut given = [0; VALUES];
     let n = question::values(run(line, last(line, 1)), &mut given);
     let mut out = [0; VALUES];
     let m = question::values(run(line, last(line, 0)), &mut out);
-    tell(call, line, &given[..n], &mut out[..m]);
+    tell(rt, call, line, &given[..n], &mut out[..m])
 }
 
-fn combine(line: &[u8], received: &[i32], results: &mut [i64]) {
+fn combine(rt: &impl Print, line: &[u8], received: &[i32], results: &mut [i64]) -> io::Result<()> {
     let gains = run(line, 1);
-    answer::verdict(combiner::combine(
-        signed(gains, 0),
-        signed(gains, 1),
-        signed(gains, 2),
-        signed(gains, 3),
-        received,
-        results,
-    ));
-    answer::key(line, 0);
-    answer::values(results);
+    answer::verdict(
+        rt,
+        combiner::combine(
+            signed(gains, 0),
+            signed(gains, 1),
+            signed(gains, 2),
+            signed(gains, 3),
+            received,
+            results,
+        ),
+    )?;
+    answer::key(rt, line, 0)?;
+    answer::values(rt, results)
 }
 
 // The run that is lent, in 64 bits.
-fn lend_wide(line: &[u8], received: &[i32], lent: &[i32]) {
+fn lend_wide(rt: &impl Print, line: &[u8], received: &[i32], lent: &[i32]) -> io::Result<()> {
     let mut results = [0; VALUES];
     let n = question::widen(lent, &mut results);
-    combine(line, received, &mut results[..n]);
+    combine(rt, line, received, &mut results[..n])
 }
 
-pub(crate) fn lend_results(line: &[u8]) {
+pub(crate) fn lend_results(rt: &impl Print, line: &[u8]) -> io::Result<()> {
     let mut received = [0; VALUES];
     let n = question::values(run(line, 2), &mut received);
     let mut lent = [0; VALUES];
     let m = question::values(run(line, 3), &mut lent);
-    lend_wide(line, &received[..n], &lent[..m]);
+    lend_wide(rt, line, &received[..n], &lent[..m])
 }
