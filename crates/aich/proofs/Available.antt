@@ -2,11 +2,11 @@
 -- follows from what is proved of the base.
 -- Assumes nothing.
 use mathlib.Core.Path.{◌≡◌, refl, sym, ap, ◌∙◌}
-use mathlib.Core.Bool.{Bool, true, false, not, ◌||◌}
+use mathlib.Core.Bool.{Bool, true, false, ◌||◌}
 use mathlib.Core.List.{List}
 use Prim.Native.Nat.{ℕ, ◌≤◌, ◌<◌}
 use native.Mathlib.Omega.{arith}
-use borrow.Author.Tests.{leb-true, leb-false, not-true, not-false}
+use borrow.Author.Tests.{leb-true, leb-false}
 use lib.Dec.{lit<}
 use lib.ListN.{length, get_or}
 use lib.IntN.{ℤ, pos}
@@ -225,11 +225,11 @@ module _ (available : ℕ) (x v : List ℤ) where
 
 -- what `none_stray` told: there is a signature that may not have its indicator, or there is none
 module _ (available : ℕ) (x : List ℤ) {good : Bool} (e : good ≡ all 16 (allows available x)) where
-  pub some_stray : not good ≡ true → first_bad (allows available x) 16 < 16
-  some_stray h = leb-false _ _ (sym e ∙ not-true good h)
+  pub some_stray : good ≡ false → first_bad (allows available x) 16 < 16
+  some_stray h = leb-false _ _ (sym e ∙ h)
 
-  pub none_stray : not good ≡ false → 16 ≤ first_bad (allows available x) 16
-  none_stray h = leb-true _ _ (sym e ∙ not-false good h)
+  pub none_stray : good ≡ true → 16 ≤ first_bad (allows available x) 16
+  none_stray h = leb-true _ _ (sym e ∙ h)
 
 module _ (available : ℕ) (v x : List ℤ) where
   read_ended : {answer : Verdict} {after : List ℤ} → Ended (read_verdict v (length x)) available (indicators_in v) (indicators_in v) x answer after

@@ -1,7 +1,7 @@
 -- What is known where no check refused.
 -- Assumes nothing.
 use mathlib.Core.Path.{◌≡◌, refl, sym, ap, ◌∙◌}
-use mathlib.Core.Bool.{Bool, true, false, not}
+use mathlib.Core.Bool.{Bool, true, false}
 use mathlib.Core.List.{List}
 use Prim.Native.Nat.{ℕ}
 use native.Mathlib.Omega.{arith}
@@ -19,7 +19,7 @@ use Rattle.whole.proofs.Bound.{b_range}
 use Rattle.aich.specs.Rule.{indicators_in}
 use Rattle.aich.specs.Outcome.{map_verdict, given, read_head, read_verdict, Read}
 use Rattle.aich.specs.Method.{Sixteen, half_of, firsts, alike, fits_at}
-use Rattle.run.proofs.Passing.{every_all, passed}
+use Rattle.run.proofs.Passing.{all_every, every_all}
 use Rattle.aich.proofs.Reading.{all_alike, all_fit}
 
 -- sixteen numbers in -1 to 1
@@ -97,8 +97,8 @@ unlike_stops v = stops v (alike v) (all_alike v)
 pub unfit_stops : (v sums : List ℤ) → sums ≡ half_of (firsts v) → all 16 (fits_at sums) ≡ false → given (indicators_in v) v ≡ false
 unfit_stops v sums e = stops v (fits_at sums) (λ t. rw e (all_fit v t))
 
-pub sums_fit : (v sums : List ℤ) {good : Bool} → sums ≡ half_of (firsts v) → good ≡ all 16 (fits_at sums) → not good ≡ false → Every (fits_at (half_of (firsts v))) 16
-sums_fit v sums e f h = rw e at (passed (fits_at sums) f h)
+pub sums_fit : (v sums : List ℤ) {good : Bool} → sums ≡ half_of (firsts v) → good ≡ all 16 (fits_at sums) → good ≡ true → Every (fits_at (half_of (firsts v))) 16
+sums_fit v sums e f h = rw e at (all_every 16 (fits_at sums) (sym f ∙ h))
 
 pub read_head_refused : (v x : List ℤ) → ((read_head (length v) (length x)).number ≡ 0 → ⊥) → Read v x (read_head (length v) (length x)) x
 unfolding read_verdict

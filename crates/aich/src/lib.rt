@@ -1,4 +1,6 @@
 // The acquisition indicator channel: docs/RULES.md, 'AICH'; TS 25.211, 5.3.3.7.
+#![tactic(auto)]
+
 ghost use Rattle.std.specs.Prelude.{◌≡◌, ◌<◌, length, get_or, pos};
 ghost use Rattle.run.specs.First.{all};
 ghost use Rattle.aich.specs.Rule.{values_of};

@@ -1,5 +1,7 @@
 // One slot of the downlink DPCH on two antennas: its rule, promises and theorems, and what antenna 2 sends where antenna 1's digits are known:
 // docs/RULES.md, 'DPCH on the second antenna'; TS 25.211, 5.3.2.1.
+#![tactic(auto)]
+
 ghost use Rattle.std.specs.Prelude.{◌≡◌, length};
 ghost use Rattle.dpch.specs.Formats.{format_of};
 ghost use Rattle.antenna.specs.Rule.{second_of, coded_from, coded_to};

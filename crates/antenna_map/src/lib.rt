@@ -1,4 +1,6 @@
 // One slot of the downlink DPCH for one of two antennas, mapped (rule, promises and theorems are those of the crate `antenna`): docs/RULES.md, 'DPCH on the second antenna'; TS 25.211, 5.3.2.1.
+#![tactic(auto)]
+
 ghost use Rattle.std.specs.Prelude.{◌≡◌, length};
 ghost use Rattle.antenna.specs.Outcome.{Map};
 ghost use Rattle.antenna_map.specs.Method.{no_antenna};

@@ -1,4 +1,6 @@
 // One slot of the downlink DPCH on two antennas, read (rule, promises and theorems are those of the crate `antenna`): docs/RULES.md, 'DPCH on the second antenna'; TS 25.211, 5.3.2.1.
+#![tactic(auto)]
+
 ghost use Rattle.std.specs.Prelude.{◌≡◌, true, length};
 ghost use Rattle.run.specs.First.{first_bad, Every, agree};
 ghost use Rattle.run.specs.Verdicts.{done};

@@ -1,5 +1,7 @@
 // A bank of stimulus slots in a lent buffer: docs/RULES.md, 'Bank'; docs/BANK.md. Here are the parts that look at a header and at a slot's length, and the one that writes a header. The
 // look at a whole slot, the check of a whole bank, the search for a slot and the calls stand in the crates `bank_front`, `bank_check`, `bank_find`, `bank_read`, `bank_store` and `bank_drop`.
+#![tactic(auto)]
+
 ghost use Rattle.std.specs.Prelude.{◌≡◌, ◌+◌, ◌≤◌, length};
 ghost use Rattle.run.specs.Written.{over};
 ghost use Rattle.bank.specs.Slots.{is_length};
@@ -9,14 +11,14 @@ ghost use Rattle.bank.specs.Outcome.{head_total, front_length};
 use run::Verdict;
 
 // A verdict with a number that the call answers, 0 where it is refused.
-#[derive(Drop)]
+#[derive(Clone, Copy)]
 pub struct Counted {
     pub verdict: Verdict,
     pub count: usize,
 }
 
 // What the search for a slot answers: whether it is there, the total taken, where the slot begins and how many digits it has.
-#[derive(Drop)]
+#[derive(Clone, Copy)]
 pub struct Found {
     pub verdict: Verdict,
     pub total: usize,

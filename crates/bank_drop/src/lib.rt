@@ -1,4 +1,6 @@
 // The call that takes a slot out of a bank (layout, promises and theorems are those of the crate `bank`): docs/RULES.md, 'Bank'; docs/BANK.md.
+#![tactic(auto)]
+
 ghost use Rattle.std.specs.Prelude.{◌≡◌, ◌≤◌, length, drop};
 ghost use Rattle.run.specs.Written.{over};
 ghost use Rattle.bank.specs.Outcome.{Drop};

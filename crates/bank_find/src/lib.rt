@@ -1,4 +1,6 @@
 // The search for a slot of a bank (layout, promises and theorems are those of the crate `bank`): docs/RULES.md, 'Bank'; docs/BANK.md.
+#![tactic(auto)]
+
 ghost use Rattle.std.specs.Prelude.{◌≡◌, true, ltb};
 ghost use Rattle.run.specs.Refusals.{range_refused, bank_refused, absent_refused};
 ghost use Rattle.run.specs.Verdicts.{or_else, unless};

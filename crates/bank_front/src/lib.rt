@@ -1,4 +1,6 @@
 // The slot at the front of a run of a bank (the layout, the promises and the theorems are those of the crate `bank`): docs/RULES.md, 'Bank'; docs/BANK.md.
+#![tactic(auto)]
+
 ghost use Rattle.std.specs.Prelude.{◌≡◌, length};
 ghost use Rattle.run.specs.First.{all, at_most};
 ghost use Rattle.bank.specs.Outcome.{front_size};

@@ -1,4 +1,6 @@
 // The calls that read a bank (layout, promises and theorems are those of the crate `bank`): docs/RULES.md, 'Bank'; docs/BANK.md.
+#![tactic(auto)]
+
 ghost use Rattle.bank.specs.Outcome.{Fetch, Length, Room};
 
 use bank::{Counted, head_total};

@@ -1,4 +1,6 @@
 // The calls that make a bank and put a slot into it (layout, promises and theorems are those of the crate `bank`): docs/RULES.md, 'Bank'; docs/BANK.md.
+#![tactic(auto)]
+
 ghost use Rattle.std.specs.Prelude.{◌≡◌, ◌+◌, ◌≤◌, length};
 ghost use Rattle.bank.specs.Layout.{slot_bytes};
 ghost use Rattle.bank.specs.Outcome.{Empty, store_verdict, Store, Find};

@@ -1,4 +1,6 @@
 // The AICH combiner for two antennas: docs/RULES.md, 'Combiner'.
+#![tactic(auto)]
+
 ghost use Rattle.std.specs.Prelude.{◌≡◌, length};
 ghost use Rattle.correlator.specs.Complexes.{cx};
 ghost use Rattle.combiner.specs.Outcome.{gain_in, some_gain, combine_head, combine_body, Combine};

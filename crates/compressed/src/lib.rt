@@ -1,5 +1,7 @@
 // A compressed frame of the downlink DPCH, with a gap of missing slots: its rule, promises and theorems, and the checks of row, gap and lengths:
 // docs/RULES.md, 'Compressed frames'; TS 25.211, 5.3.2.
+#![tactic(auto)]
+
 ghost use Rattle.std.specs.Prelude.{◌≡◌, [], ◌∷◌};
 ghost use Rattle.dpch.specs.Compressed.{format_in};
 ghost use Rattle.compressed.specs.Rule.{is_missing, transmitted, turn_of, gap_stands};

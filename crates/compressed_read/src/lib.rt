@@ -1,4 +1,6 @@
 // A compressed frame of the downlink DPCH, read (rule, promises and theorems are those of the crate `compressed`): docs/RULES.md, 'Compressed frames'; TS 25.211, 5.3.2.
+#![tactic(auto)]
+
 ghost use Rattle.std.specs.Prelude.{◌≡◌};
 ghost use Rattle.dpch.specs.Compressed.{format_in};
 ghost use Rattle.compressed.specs.Outcome.{read_verdict, Read};

@@ -1,4 +1,6 @@
 // The AICH combiner's numbers: docs/RULES.md, 'Combiner'. Gains of 16 bits and parts of 32 cannot overflow sums of 64, so nothing is asked of either.
+#![tactic(auto)]
+
 ghost use Rattle.std.specs.Prelude.{◌≡◌, ◌++◌, ◌<◌, length, ◌+ℤ◌};
 ghost use Rattle.signature.specs.Folding.{sums, differences, folds};
 ghost use Rattle.correlator.specs.Complexes.{cx, ◌⊞◌, ◌⊟◌, ◌⊠◌, conj};
@@ -6,7 +8,7 @@ ghost use Rattle.correlator.specs.Rule.{symbol, t1, t2, combined, numbers_of};
 ghost use Rattle.correlator.specs.Method.{Small, Parts, pair_sums, depth, Room, Halves};
 
 // A complex whole number.
-#[derive(Drop)]
+#[derive(Clone, Copy)]
 pub struct Complex {
     pub re: i64,
     pub im: i64,

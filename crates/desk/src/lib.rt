@@ -1,24 +1,26 @@
 // The random access desk, fresh, and its distances: docs/RULES.md, 'The random access desk'; TS 25.211, 5.3.3.7 and 7.3.
+#![tactic(auto)]
+
 ghost use Rattle.std.specs.Prelude.{◌≡◌};
 ghost use Rattle.desk.specs.Outcome.{Fresh, timing_verdict, ToAich, ToMessage};
 
 use run::{Verdict, refusal, unless};
 
 // The signature served last.
-#[derive(Drop)]
+#[derive(Clone, Copy)]
 pub struct Desk {
     pub last: usize,
 }
 
 // What `serve` answers: the desk afterwards, as it was where refused.
-#[derive(Drop)]
+#[derive(Clone, Copy)]
 pub struct Served {
     pub verdict: Verdict,
     pub desk: Desk,
 }
 
 // A distance in chips, 0 where refused.
-#[derive(Drop)]
+#[derive(Clone, Copy)]
 pub struct Distance {
     pub verdict: Verdict,
     pub chips: usize,

@@ -1,4 +1,6 @@
 // The random access desk, one access slot (rule, promises and theorems are those of the crate `desk`): docs/RULES.md, 'The random access desk'; TS 25.211, 5.3.3.7 and 7.3.
+#![tactic(auto)]
+
 ghost use Rattle.std.specs.Prelude.{◌<◌, ◌≤◌, ◌≡◌, ◌&&◌, leb};
 ghost use Rattle.aich.specs.Rule.{offers};
 ghost use Rattle.desk.specs.Rule.{last_after};

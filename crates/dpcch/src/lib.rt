@@ -1,5 +1,7 @@
 // The uplink DPCCH: its rule, promises and theorems, its formats, and the checks of numbers and lengths before a slot is mapped. docs/RULES.md, 'Uplink DPCCH';
 // TS 25.211, 5.2.1.1, table 2.
+#![tactic(auto)]
+
 ghost use Rattle.std.specs.Prelude.{◌≡◌, ◌&&◌};
 ghost use Rattle.dpch.specs.Uplink.{dpcch_format};
 ghost use Rattle.dpcch.specs.Outcome.{map_head, sizes_are};

@@ -1,4 +1,6 @@
 // The digits of one slot of the uplink DPCCH, checked (rule, promises and theorems are those of the crate `dpcch`): docs/RULES.md, 'Uplink DPCCH'; TS 25.211, 5.2.1.1.
+#![tactic(auto)]
+
 ghost use Rattle.std.specs.Prelude.{◌≡◌};
 ghost use Rattle.dpcch.specs.Outcome.{part_verdict};
 

@@ -1,5 +1,7 @@
 // Whether a slot of the uplink DPCCH is one that some fields give (rule, promises and theorems are those of the crate `dpcch`): docs/RULES.md, 'Uplink DPCCH'; TS 25.211, 5.2.1.1.
 // Nearly every slot is, so this is asked first; which digit is refused, and where, the crate `dpcch_check` finds.
+#![tactic(auto)]
+
 ghost use Rattle.std.specs.Prelude.{◌≡◌, ◌&&◌, ◌≤◌, eqb, leb, length};
 ghost use Rattle.run.specs.First.{all, agree};
 ghost use Rattle.dpcch.specs.Outcome.{digits_verdict, part_verdict};

@@ -1,4 +1,6 @@
 // A frame of the uplink DPCCH, mapped (rule, promises and theorems are those of the crate `dpcch`): docs/RULES.md, 'Uplink DPCCH'; TS 25.211, 5.2.1.1.
+#![tactic(auto)]
+
 ghost use Rattle.std.specs.Prelude.{◌≡◌};
 ghost use Rattle.dpcch.specs.Outcome.{frame_map_head, frame_map_verdict, FrameMap};
 

@@ -1,4 +1,6 @@
 // A frame of the uplink DPCCH, read (rule, promises and theorems are those of the crate `dpcch`): docs/RULES.md, 'Uplink DPCCH'; TS 25.211, 5.2.1.1.
+#![tactic(auto)]
+
 ghost use Rattle.std.specs.Prelude.{◌≡◌};
 ghost use Rattle.dpcch.specs.Outcome.{frame_read_head, frame_read_verdict, FrameRead};
 

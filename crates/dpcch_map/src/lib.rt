@@ -1,5 +1,7 @@
 // One slot of the uplink DPCCH, mapped: its fields are checked, and then written by `dpcch_put` (rule, promises and theorems are those of the crate `dpcch`):
 // docs/RULES.md, 'Uplink DPCCH'; TS 25.211, 5.2.1.1.
+#![tactic(auto)]
+
 ghost use Rattle.std.specs.Prelude.{◌≡◌, true, length};
 ghost use Rattle.run.specs.First.{Every, at_most};
 ghost use Rattle.run.specs.Verdicts.{done};

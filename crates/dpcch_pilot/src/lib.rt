@@ -1,4 +1,6 @@
 // The pilot bits of the uplink DPCCH (its rule, promises and theorems are those of the crates `dpch` and `dpcch`): docs/RULES.md, 'Uplink DPCCH'; TS 25.211, 5.2.1.1, tables 3 and 4.
+#![tactic(auto)]
+
 ghost use Rattle.std.specs.Prelude.{◌≡◌};
 ghost use Rattle.dpcch.specs.Ready.{pilot_row, pilot_start};
 

@@ -1,4 +1,6 @@
 // One slot of the uplink DPCCH, written (rule, promises and theorems are those of the crate `dpcch`): docs/RULES.md, 'Uplink DPCCH'; TS 25.211, 5.2.1.1.
+#![tactic(auto)]
+
 ghost use Rattle.std.specs.Prelude.{◌≡◌, length};
 ghost use Rattle.run.specs.Written.{over};
 ghost use Rattle.dpcch.specs.Rule.{slot_of};

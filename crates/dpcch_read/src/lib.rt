@@ -1,5 +1,7 @@
 // One slot of the uplink DPCCH, read: its digits are checked by the crate `dpcch_check`, and then its fields are taken. Rule, promises and theorems are those of
 // the crate `dpcch`: docs/RULES.md, 'Uplink DPCCH'; TS 25.211, 5.2.1.1.
+#![tactic(auto)]
+
 ghost use Rattle.std.specs.Prelude.{◌≡◌};
 ghost use Rattle.dpcch.specs.Outcome.{read_head, read_verdict, Read, Take};
 

@@ -1,5 +1,7 @@
 // The downlink DPCH: slot formats; its pilot bits are those of the crates `dpch_pilot` and `dpch_four`. docs/RULES.md, 'DPCH slot'; TS 25.211, 5.3.2, tables 11 and 12, and 5.3.2.1, table 14.
 // The tables of the uplink's dedicated channels stand in specs/ too, so that what every layout obeys is said once.
+#![tactic(auto)]
+
 ghost use Rattle.std.specs.Prelude.{◌≡◌, [], ◌∷◌};
 ghost use Rattle.dpch.specs.Heads.{frame_head, slot_head};
 ghost use Rattle.dpch.specs.Formats.{row, no_row, format_of};
@@ -14,7 +16,7 @@ pub const KIND_A: usize = 1;
 pub const KIND_B: usize = 2;
 
 // A row of the table: the bits of each field of a slot, and of the slot; the kind; and how many of a frame's slots are transmitted, at least and at most.
-#[derive(Drop)]
+#[derive(Clone, Copy)]
 pub struct Format {
     pub data1: usize,
     pub data2: usize,
@@ -28,7 +30,7 @@ pub struct Format {
 }
 
 // The bits of each field of an uplink DPCCH slot, and of the slot.
-#[derive(Drop)]
+#[derive(Clone, Copy)]
 pub struct Dpcch {
     pub pilot: usize,
     pub tfci: usize,
@@ -38,7 +40,7 @@ pub struct Dpcch {
 }
 
 // What a reader of slots answers: the TPC command, 0 where refused.
-#[derive(Drop)]
+#[derive(Clone, Copy)]
 pub struct Command {
     pub verdict: Verdict,
     pub tpc: usize,

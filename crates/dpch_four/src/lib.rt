@@ -1,4 +1,6 @@
 // The pilot of four bits of the downlink DPCH on antenna 2 (its rule and theorems are those of the crate `dpch`): docs/RULES.md, 'DPCH on the second antenna'; TS 25.211, 5.3.2.1, table 14.
+#![tactic(auto)]
+
 ghost use Rattle.std.specs.Prelude.{◌≡◌};
 ghost use Rattle.dpch.specs.SecondPilots.{second_pilot};
 

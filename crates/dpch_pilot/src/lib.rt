@@ -1,5 +1,7 @@
 // The pilot bits of the downlink DPCH, as the tables print them (the tables' rules and theorems are those of the crate `dpch`): docs/RULES.md, 'DPCH slot'; TS 25.211, 5.3.2, table 12, and on antenna 2
 // 5.3.2.1, table 14.
+#![tactic(auto)]
+
 ghost use Rattle.std.specs.Prelude.{◌≡◌};
 ghost use Rattle.dpch.specs.Pilots.{pilot_row};
 ghost use Rattle.dpch.specs.SecondPilots.{second_pilot, row_on};

@@ -1,5 +1,7 @@
 // The downlink DPCH in compressed frames: the rows of formats A and B, made of the normal ones, and the pilot bits with each pair twice (the table, the rules and the
 // theorems are those of the crate `dpch`): docs/RULES.md, 'Compressed frames'; TS 25.211, 5.3.2, tables 11 and 12.
+#![tactic(auto)]
+
 ghost use Rattle.std.specs.Prelude.{◌≡◌, cond, eqb};
 ghost use Rattle.dpch.specs.Formats.{kind_a};
 ghost use Rattle.dpch.specs.Pilots.{pilot_row};

@@ -1,4 +1,6 @@
 // The uplink DPDCH: slots and frames, mapped and read. docs/RULES.md, 'Uplink DPDCH'; TS 25.211, 5.2.1.1, table 1. Its only field is data, so each call checks a run and copies it.
+#![tactic(auto)]
+
 ghost use Rattle.std.specs.Prelude.{◌≡◌, true, ◌≤◌, length};
 ghost use Rattle.run.specs.First.{Every, at_most};
 ghost use Rattle.dpch.specs.Uplink.{dpdch_size};

@@ -1,4 +1,6 @@
 // A frame of the downlink DPCH, fifteen slots of one format: its rule, promises and theorems, and the checks of format and lengths: docs/RULES.md, 'DPCH slot'; TS 25.211, 5.3.2.
+#![tactic(auto)]
+
 ghost use Rattle.std.specs.Prelude.{◌≡◌};
 ghost use Rattle.frame.specs.Outcome.{map_head, read_head};
 

@@ -1,4 +1,6 @@
 // A frame of the downlink DPCH, read (rule, promises and theorems are those of the crate `frame`): docs/RULES.md, 'DPCH slot'; TS 25.211, 5.3.2.
+#![tactic(auto)]
+
 ghost use Rattle.std.specs.Prelude.{◌≡◌};
 ghost use Rattle.frame.specs.Outcome.{read_verdict, Read};
 

@@ -1,4 +1,6 @@
 // The high-speed data channel on two antennas: its rule, promises and theorems, and the lengths of its subframes: docs/RULES.md, 'HS-PDSCH'; TS 25.211, 5.3.3.13, table 26.
+#![tactic(auto)]
+
 ghost use Rattle.std.specs.Prelude.{◌≡◌};
 ghost use Rattle.hspdsch.specs.Rule.{size};
 

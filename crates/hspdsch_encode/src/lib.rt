@@ -1,5 +1,7 @@
 // The high-speed data channel, what antenna 2 sends where antenna 1's digits are known (rule, promises and theorems are those of the crate `hspdsch`):
 // docs/RULES.md, 'HS-PDSCH'; TS 25.211, 5.3.1.1.1, figures 8 and 8A.
+#![tactic(auto)]
+
 ghost use Rattle.std.specs.Prelude.{◌≡◌, ◌%◌, length};
 ghost use Rattle.sttd.specs.Rule.{sttd};
 ghost use Rattle.hspdsch.specs.Rule.{picked, figure8_a, eights};

@@ -1,4 +1,6 @@
 // The high-speed data channel on two antennas, read (rule, promises and theorems are those of the crate `hspdsch`): docs/RULES.md, 'HS-PDSCH'; TS 25.211, 5.3.3.13 and 5.3.1.1.1.
+#![tactic(auto)]
+
 ghost use Rattle.std.specs.Prelude.{◌≡◌, ◌%◌, ◌≤◌, length};
 ghost use Rattle.run.specs.First.{first_bad, agree};
 ghost use Rattle.hspdsch.specs.Rule.{size, coded};

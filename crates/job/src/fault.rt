@@ -5,7 +5,7 @@ ghost use Rattle.job.specs.Faults.{verdict_of, check};
 use run::{Verdict, refusal, unless};
 
 // Each fault knows its offset in the file.
-#[derive(Drop)]
+#[derive(Clone, Copy)]
 pub enum Fault {
     // a byte stands at the limit: the offset is the limit
     OverLong(usize),

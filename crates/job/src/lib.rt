@@ -1,5 +1,7 @@
 // Job files: docs/RULES.md, 'Job file and program'. A program opens a file (`job_open`), runs its records one after the other (`job_run`), ends it
 // (`job_check`), and tells the first refusal (`lines::tell`). Each call is lent a window: a part of the file that begins at an offset. Here stand its bytes, and what can be wrong with a file itself.
+#![tactic(auto)]
+
 ghost use Rattle.std.specs.Prelude.{◌≡◌, get_or};
 
 use run::Verdict;
@@ -7,7 +9,7 @@ use run::Verdict;
 pub mod fault;
 
 // What `job_open::open` answers: how many bytes the file may have, the number of records, where the first begins, and how long the line is; 0 where refused.
-#[derive(Drop)]
+#[derive(Clone, Copy)]
 pub struct Opened {
     pub verdict: Verdict,
     pub limit: u32,
@@ -17,7 +19,7 @@ pub struct Opened {
 }
 
 // What `job_run::run` answers: how many bytes the record has, and how long the line is; 0 where refused.
-#[derive(Drop)]
+#[derive(Clone, Copy)]
 pub struct Ran {
     pub verdict: Verdict,
     pub size: usize,

@@ -1,4 +1,6 @@
 // The checks of a job file's own bytes behind its header: docs/RULES.md, 'Job file and program'. The definitions, the promises and the theorems are those of `job`.
+#![tactic(auto)]
+
 ghost use Rattle.std.specs.Prelude.{◌≡◌, get_or};
 ghost use Rattle.kinds.specs.Rule.{shape_of};
 ghost use Rattle.job.specs.Outcome.{within, reach, kind_head, record_head, end_verdict};

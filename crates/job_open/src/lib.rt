@@ -1,4 +1,6 @@
 // Opens a job file: docs/RULES.md, 'Job file and program'. The definitions, the promises and the theorems are those of `job`.
+#![tactic(auto)]
+
 ghost use Rattle.std.specs.Prelude.{◌≡◌};
 ghost use Rattle.job.specs.Rule.{is_version, width_of, limit_of, count_in};
 ghost use Rattle.job.specs.Outcome.{present, byte_is, length_verdict, head_verdict, open_verdict, Open};

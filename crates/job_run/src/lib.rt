@@ -1,4 +1,6 @@
 // Runs a record of a job file: docs/RULES.md, 'Job file and program'. The definitions, the promises and the theorems are those of `job`.
+#![tactic(auto)]
+
 ghost use Rattle.std.specs.Prelude.{◌≡◌};
 ghost use Rattle.run.specs.Verdicts.{or_else, leaves};
 ghost use Rattle.lines.specs.Outcome.{room};

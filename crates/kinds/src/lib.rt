@@ -1,4 +1,6 @@
 // The kinds of a job file's record: which there are, what the byte behind each must be, and how long a record is. docs/RULES.md, 'Job file and program'.
+#![tactic(auto)]
+
 ghost use Rattle.std.specs.Prelude.{◌≡◌};
 ghost use Rattle.kinds.specs.Rule.{is_kind, second_verdict, size_of, shape_of};
 
@@ -6,7 +8,7 @@ use dpch::format_of;
 use run::{Verdict, refusal, unless};
 
 // What a record's first two bytes say: whether there is such a kind, what is wrong with the byte behind it, and how many bytes it has.
-#[derive(Drop)]
+#[derive(Clone, Copy)]
 pub struct Shape {
     pub known: bool,
     pub verdict: Verdict,

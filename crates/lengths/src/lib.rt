@@ -1,4 +1,6 @@
 // How long each run is that a mapper is lent: docs/RULES.md, 'Lengths of runs'. Runs are counted in the order in which the mapper tells refusal 3 of them, from 0 on.
+#![tactic(auto)]
+
 ghost use Rattle.std.specs.Prelude.{◌≡◌, [], ◌∷◌, ◌≤◌, ◌*◌, get_or, take};
 ghost use Rattle.dpch.specs.Compressed.{format_in};
 ghost use Rattle.dpch.specs.Heads.{frame_head};
@@ -11,7 +13,7 @@ use dpch::frame_head;
 use run::{Verdict, refusal, unless};
 
 // What a call here answers: the length, 0 where refused.
-#[derive(Drop)]
+#[derive(Clone, Copy)]
 pub struct Length {
     pub verdict: Verdict,
     pub length: usize,

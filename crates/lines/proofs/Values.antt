@@ -33,7 +33,7 @@ module _ (v : ℤ) (ok : Value v) where
   small = let p = range_parts (negsuc 15) (pos 16) v ok in b_range 15 v p.0 p.1
 
   pub value_back : to_z w32 (of_z w32 v) ≡ v
-  value_back = (r_in small (lit< tt)).is
+  value_back = (r_in {w = w32} small (lit< tt)).is
 
   pub value_minus : SFits w32 (pos 0 -ℤ to_z w32 (of_z w32 v))
   value_minus = minus_fits w32 small (lit< tt)

@@ -1,4 +1,6 @@
 // The lines that are printed: of a job file's header, of a record of each kind, of a refusal. docs/RULES.md, 'Job file and program'.
+#![tactic(auto)]
+
 ghost use Rattle.std.specs.Prelude.{◌≡◌, ◌≤◌, ◌<◌, pos, negsuc, length};
 ghost use Rattle.run.specs.First.{Every};
 ghost use Rattle.run.specs.Ranges.{in_range};
@@ -17,7 +19,7 @@ mod text;
 pub const LINE: usize = 1292;
 
 // What a call answers: how long the line is; 0 where refused.
-#[derive(Drop)]
+#[derive(Clone, Copy)]
 pub struct Told {
     pub verdict: Verdict,
     pub length: usize,

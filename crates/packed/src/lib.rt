@@ -1,4 +1,6 @@
 // Number, place and value in one 64-bit number, as the C calls answer: docs/RULES.md, 'Packed answers'.
+#![tactic(auto)]
+
 ghost use Rattle.std.specs.Prelude.{◌≡◌};
 ghost use Rattle.packed.specs.Outcome.{packed_cut};
 

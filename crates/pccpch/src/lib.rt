@@ -1,4 +1,6 @@
 // The primary common control physical channel on two antennas, mapped: docs/RULES.md, 'P-CCPCH'; TS 25.211, 5.3.3.3 and 5.3.3.3.1.
+#![tactic(auto)]
+
 ghost use Rattle.std.specs.Prelude.{◌≡◌, true, false, length};
 ghost use Rattle.run.specs.Verdicts.{done};
 ghost use Rattle.pccpch.specs.Rule.{frame_of, coded, second_of};

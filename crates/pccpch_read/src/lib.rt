@@ -1,4 +1,6 @@
 // The primary common control physical channel on two antennas, read (rule, promises and theorems are those of the crate `pccpch`): docs/RULES.md, 'P-CCPCH'; TS 25.211, 5.3.3.3 and 5.3.3.3.1.
+#![tactic(auto)]
+
 ghost use Rattle.std.specs.Prelude.{◌≡◌, true, false, ◌&&◌, eqb, length};
 ghost use Rattle.run.specs.First.{first_bad, all, Every, at_most, agree};
 ghost use Rattle.run.specs.Verdicts.{done};

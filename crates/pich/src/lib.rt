@@ -1,4 +1,6 @@
 // The paging indicator channel, its numbers of indicators and q: docs/RULES.md, 'PICH'; TS 25.211, 5.3.3.10.
+#![tactic(auto)]
+
 ghost use Rattle.std.specs.Prelude.{◌≡◌, true, ◌*◌, ◌/◌, ◌<◌, ◌≤◌};
 ghost use Rattle.pich.specs.Rule.{is_np, first_digit, q_of};
 ghost use Rattle.pich.specs.Outcome.{q_verdict, Q};
@@ -6,15 +8,15 @@ ghost use Rattle.pich.specs.Outcome.{q_verdict, Q};
 use run::{Verdict, or_else, refusal, unless};
 
 // A PI as the higher layers compute it. It does not say where in the frame its indicator stands.
-#[derive(Drop)]
+#[derive(Clone, Copy)]
 pub struct Pi(pub usize);
 
 // The number q of a paging indicator: what a place in the frame is found by.
-#[derive(Drop)]
+#[derive(Clone, Copy)]
 pub struct Indicator(pub usize);
 
 // What `q` answers: the number of the indicator, 0 where refused.
-#[derive(Drop)]
+#[derive(Clone, Copy)]
 pub struct Paging {
     pub verdict: Verdict,
     pub q: Indicator,

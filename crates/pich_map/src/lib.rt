@@ -1,4 +1,6 @@
 // The paging indicator channel, mapped (rule, promises and theorems are those of the crate `pich`): docs/RULES.md, 'PICH'; TS 25.211, 5.3.3.10.
+#![tactic(auto)]
+
 ghost use Rattle.std.specs.Prelude.{◌≡◌, true, length};
 ghost use Rattle.pich.specs.Rule.{is_np, frame_of};
 ghost use Rattle.pich.specs.Outcome.{map_verdict, Map};

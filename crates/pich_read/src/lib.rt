@@ -1,4 +1,6 @@
 // The paging indicator channel, read (rule, promises and theorems are those of the crate `pich`): docs/RULES.md, 'PICH'; TS 25.211, 5.3.3.10.
+#![tactic(auto)]
+
 ghost use Rattle.std.specs.Prelude.{◌≡◌, true, false, ℕ, ◌-◌, ◌*◌, ◌/◌, ◌%◌, ◌<◌, length, get_or};
 ghost use Rattle.run.specs.First.{first_bad, all, at_most};
 ghost use Rattle.pich.specs.Rule.{is_np, width, indicators_in};

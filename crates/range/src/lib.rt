@@ -1,4 +1,6 @@
 // Ranges of whole numbers: a number's, and the first place of a run that is outside.
+#![tactic(auto)]
+
 ghost use Rattle.std.specs.Prelude.{◌≡◌, length};
 ghost use Rattle.run.specs.First.{first_bad, all};
 ghost use Rattle.run.specs.Ranges.{between, in_range};

@@ -1,12 +1,12 @@
 -- Parts of a run as the code lends them, `&s[a..a + w]`: their length and entries, and a part that is copied to its place.
 -- Assumes nothing.
-use mathlib.Core.Path.{◌≡◌, sym, ap, ◌∙◌}
-use mathlib.Core.List.{List, ◌++◌, append_assoc}
+use mathlib.Core.Path.{◌≡◌, sym, ◌∙◌}
+use mathlib.Core.List.{List}
 use Prim.Native.Nat.{ℕ, ◌+◌, ◌-◌, ◌≤◌, ◌<◌}
 use native.Mathlib.Omega.{arith}
 use borrow.Rule.Slice.PartMut.{put_mid, mid_of}
-use lib.ListN.{length, get_or, take, drop, take-append-drop, length-drop}
-use lib.Seq.{ext_get_or, get_or-take, get_or-drop, length-take-le, take_all, take-add, drop-drop}
+use lib.ListN.{length, get_or, take, drop, length-drop}
+use lib.Seq.{ext_get_or, get_or-take, get_or-drop, length-take-le, take_all}
 use Rattle.run.specs.Written.{over}
 use Rattle.run.proofs.Front.{Front, front_lent, front_part}
 use Rattle.run.proofs.Over.{over_whole}

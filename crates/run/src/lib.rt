@@ -1,4 +1,6 @@
 // Verdicts and their order, and what is said of runs of digits. No channel's rule stands here.
+#![tactic(auto)]
+
 ghost use Rattle.std.specs.Prelude.{◌≡◌, [], ◌∷◌, ◌+◌, min, leb, length};
 ghost use Rattle.run.specs.Verdicts.{or_else, unless, lengths};
 
@@ -8,7 +10,7 @@ pub mod refusal;
 pub const DTX: u8 = 2;
 
 // What a call answers: 0 and 0 where it is done, else the refusal's number and place.
-#[derive(Drop)]
+#[derive(Clone, Copy)]
 pub struct Verdict {
     pub number: usize,
     pub place: usize,

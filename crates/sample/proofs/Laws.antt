@@ -71,6 +71,8 @@ cross m a e x d h =
 -- so its product with any float is the number's
 product : (f : Format) (x y : Float) (s : Bool) (a : ℕ) → HasValue x s a 1 → mul f x y ≡ mul f (fin s a (pos 0)) y
 unfolding mul
+product f nan y s a h = elim h [ ]
+product f (inf _) y s a h = elim h [ ]
 product f (fin t m e) nan s a h = refl
 product f (fin t m e) (inf u) s a h = rw (same_zero m a e h.1, h.0)
 product f (fin t m e) (fin u n d) s a h =

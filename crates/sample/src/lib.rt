@@ -1,4 +1,6 @@
 // Samples for a simulator: docs/RULES.md, 'Samples'.
+#![tactic(auto)]
+
 ghost use Rattle.std.specs.Prelude.{◌≡◌, true};
 ghost use Rattle.sample.specs.Rule.{is_value, is_level, times, part};
 ghost use Rattle.sample.specs.Outcome.{levels_verdict, take_verdict, Take};
@@ -11,7 +13,7 @@ const LOWEST: f32 = 0.0009765625;
 const HIGHEST: f32 = 1024.0;
 
 // The transmit setting: nothing is sent, one level for both antennas, or the level of antenna 1 and that of antenna 2.
-#[derive(Drop)]
+#[derive(Clone, Copy)]
 pub enum Setting {
     Off,
     Shared(f32),
@@ -19,14 +21,14 @@ pub enum Setting {
 }
 
 // The in-phase and the quadrature part.
-#[derive(Drop)]
+#[derive(Clone, Copy)]
 pub struct Sample {
     pub inphase: f32,
     pub quadrature: f32,
 }
 
 // What `take` answers: the sample, +0 and +0 where refused.
-#[derive(Drop)]
+#[derive(Clone, Copy)]
 pub struct Sampled {
     pub verdict: Verdict,
     pub sample: Sample,

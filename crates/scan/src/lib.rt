@@ -1,4 +1,6 @@
 // Scans of a run for a digit above a limit. A scan answers the first place that fails its test, or the number of places where none does; a look answers whether none does.
+#![tactic(auto)]
+
 ghost use Rattle.std.specs.Prelude.{◌≡◌, ◌&&◌, leb, length};
 ghost use Rattle.run.specs.First.{first_bad, all, Every, at_most};
 

@@ -1,4 +1,6 @@
 // Two runs side by side: the first place at which they differ, and whether they begin alike.
+#![tactic(auto)]
+
 ghost use Rattle.std.specs.Prelude.{◌≡◌, ◌&&◌, ◌≤◌, min, leb, length};
 ghost use Rattle.run.specs.First.{first_bad, all, agree};
 

@@ -1,4 +1,6 @@
 // Scans of a run for one digit: each answers the first place that fails its test, or the number of places where none does.
+#![tactic(auto)]
+
 ghost use Rattle.std.specs.Prelude.{◌≡◌, length};
 ghost use Rattle.run.specs.First.{first_bad, is_at, not_at, like_first};
 

@@ -1,4 +1,6 @@
 // The signatures of the acquisition indicator channel: docs/RULES.md, 'AICH'; TS 25.211, 5.3.3.7.
+#![tactic(auto)]
+
 ghost use Rattle.std.specs.Prelude.{◌≡◌, ◌<◌};
 ghost use Rattle.signature.specs.Rule.{is_plus};
 ghost use Rattle.signature.specs.Outcome.{sign_at};

@@ -1,4 +1,6 @@
 // One slot of the downlink DPCH: its rule, promises and theorems, and the lengths of its runs: docs/RULES.md, 'DPCH slot'; TS 25.211, 5.3.2.
+#![tactic(auto)]
+
 ghost use Rattle.std.specs.Prelude.{◌≡◌};
 ghost use Rattle.dpch.specs.Formats.{format_of};
 ghost use Rattle.dpch.specs.Compressed.{format_in};
@@ -8,7 +10,7 @@ ghost use Rattle.slot.specs.Ready.{Sound, SizesOf};
 use dpch::Format;
 
 // The lengths of one slot's runs.
-#[derive(Drop)]
+#[derive(Clone, Copy)]
 pub struct Sizes {
     pub data: usize,
     pub tfci: usize,

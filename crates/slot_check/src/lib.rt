@@ -1,4 +1,6 @@
 // The digits of one slot of the downlink DPCH, checked (rule, promises and theorems are those of the crate `slot`): docs/RULES.md, 'DPCH slot'; TS 25.211, 5.3.2.
+#![tactic(auto)]
+
 ghost use Rattle.std.specs.Prelude.{◌≡◌};
 ghost use Rattle.dpch.specs.Formats.{format_of};
 ghost use Rattle.dpch.specs.Compressed.{format_in};

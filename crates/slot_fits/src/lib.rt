@@ -1,5 +1,7 @@
 // Whether a slot of the downlink DPCH is one that some fields give (rule, promises and theorems are those of the crate `slot`): docs/RULES.md, 'DPCH slot'; TS 25.211, 5.3.2.
 // Nearly every slot is, so this is asked first; which digit is refused, and where, the crate `slot_check` finds.
+#![tactic(auto)]
+
 ghost use Rattle.std.specs.Prelude.{◌≡◌, ◌&&◌, ◌≤◌, eqb, length};
 ghost use Rattle.run.specs.First.{all, at_most, is_at, like_first, agree};
 ghost use Rattle.dpch.specs.Formats.{normal, kind_b, format_of};

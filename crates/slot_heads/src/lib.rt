@@ -1,4 +1,6 @@
 // The checks of numbers and lengths with which a call on one slot of the downlink DPCH begins (rule, promises and theorems are those of the crate `slot`): docs/RULES.md, 'DPCH slot'.
+#![tactic(auto)]
+
 ghost use Rattle.std.specs.Prelude.{◌≡◌};
 ghost use Rattle.slot.specs.Outcome.{map_head, read_head};
 

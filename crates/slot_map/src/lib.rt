@@ -1,5 +1,7 @@
 // One slot of the downlink DPCH, mapped: its fields are checked, and then written by `slot_put` (rule, promises and theorems are those of the crate `slot`):
 // docs/RULES.md, 'DPCH slot'; TS 25.211, 5.3.2.
+#![tactic(auto)]
+
 ghost use Rattle.std.specs.Prelude.{◌≡◌, length};
 ghost use Rattle.run.specs.First.{first_bad};
 ghost use Rattle.slot.specs.Rule.{tfci_stands};

@@ -1,4 +1,6 @@
 // The pilot field of a slot of the downlink DPCH, written (rule, promises and theorems are those of the crates `dpch` and `slot`): docs/RULES.md, 'DPCH slot'; TS 25.211, 5.3.2, and on antenna 2 5.3.2.1.
+#![tactic(auto)]
+
 ghost use Rattle.std.specs.Prelude.{◌≡◌, ◌≤◌, length};
 ghost use Rattle.run.specs.Written.{over};
 ghost use Rattle.dpch.specs.Formats.{kind_b};

@@ -1,4 +1,6 @@
 // One slot of the downlink DPCH, written (rule, promises and theorems are those of the crate `slot`): docs/RULES.md, 'DPCH slot'; TS 25.211, 5.3.2.
+#![tactic(auto)]
+
 ghost use Rattle.std.specs.Prelude.{◌≡◌, length};
 ghost use Rattle.slot.specs.Rule.{slot_of};
 ghost use Rattle.slot.specs.Ready.{Ready};

@@ -1,5 +1,7 @@
 // One slot of the downlink DPCH, read: its digits are checked by the crate `slot_check`, and then its fields are taken. Rule, promises and theorems are those of
 // the crate `slot`: docs/RULES.md, 'DPCH slot'; TS 25.211, 5.3.2.
+#![tactic(auto)]
+
 ghost use Rattle.std.specs.Prelude.{◌≡◌, ◌≤◌, length};
 ghost use Rattle.dpch.specs.Formats.{format_of};
 ghost use Rattle.dpch.specs.Compressed.{format_in};

@@ -1,4 +1,6 @@
 // Whether the TFCI field of a slot of the downlink DPCH is all bits or all DTX (rule, promises and theorems are those of the crate `slot`): docs/RULES.md, 'DPCH slot'; TS 25.211, 5.3.2.
+#![tactic(auto)]
+
 ghost use Rattle.std.specs.Prelude.{◌≡◌, ◌≤◌, eqb, length};
 ghost use Rattle.std.specs.Bool.{beq};
 ghost use Rattle.run.specs.First.{all};

@@ -1,4 +1,6 @@
 // AICH for a C host: each call is that of the crate `aich`, with the answer packed in one number (docs/INTERFACE.md).
+#![tactic(auto)]
+
 ghost use Rattle.slt_aich.specs.Outcome.{AichMap, AichRead, AichMapAvailable, AichReadAvailable};
 
 use packed::pack;

@@ -1,4 +1,6 @@
 // DPCH slots on two antennas for a C host: each call is that of the crates `antenna_map` and `antenna_read`, with the answer packed in one number (docs/INTERFACE.md).
+#![tactic(auto)]
+
 ghost use Rattle.slt_antenna.specs.Outcome.{SlotMapAntenna, SlotReadAntennas};
 
 use packed::pack;

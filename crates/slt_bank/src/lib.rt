@@ -1,4 +1,6 @@
 // The bank of slots for a C host: each call is that of the crates `bank_store`, `bank_read` and `bank_drop`, with the answer packed in one number (docs/INTERFACE.md, docs/BANK.md).
+#![tactic(auto)]
+
 ghost use Rattle.slt_bank.specs.Outcome.{BankEmpty, BankStore, BankFetch, BankDrop, BankLength, BankRoom};
 
 use packed::pack;

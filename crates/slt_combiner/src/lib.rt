@@ -1,4 +1,6 @@
 // The AICH combiner for a C host: each call is that of the crate `combiner`, with the answer packed in one number (docs/INTERFACE.md).
+#![tactic(auto)]
+
 ghost use Rattle.correlator.specs.Complexes.{cx};
 ghost use Rattle.slt_combiner.specs.Outcome.{AichCombine};
 

@@ -1,4 +1,6 @@
 // Compressed DPCH frames for a C host: each call is that of the crates `compressed_map` and `compressed_read`, with the answer packed in one number (docs/INTERFACE.md).
+#![tactic(auto)]
+
 ghost use Rattle.slt_compressed.specs.Outcome.{CompressedMap, CompressedRead};
 
 use packed::pack;

@@ -1,4 +1,6 @@
 // The random access desk for a C host: each call is that of the crate `desk`, with the answer packed in one number (docs/INTERFACE.md).
+#![tactic(auto)]
+
 ghost use Rattle.slt_desk.specs.Outcome.{DeskServe, DeskToAich, DeskToMessage};
 
 use desk::Desk;

@@ -1,5 +1,7 @@
 // The uplink DPCCH for a C host: each call is that of the crates `dpcch_map`, `dpcch_read`, `dpcch_frame_map` and `dpcch_frame_read`, with the answer packed in one
 // number (docs/INTERFACE.md).
+#![tactic(auto)]
+
 ghost use Rattle.slt_dpcch.specs.Outcome.{DpcchMap, DpcchRead, DpcchFrameMap, DpcchFrameRead};
 
 use packed::pack;

@@ -1,4 +1,6 @@
 // The uplink DPDCH for a C host: each call is that of the crate `dpdch`, with the answer packed in one number (docs/INTERFACE.md).
+#![tactic(auto)]
+
 ghost use Rattle.slt_dpdch.specs.Outcome.{DpdchMap, DpdchRead, DpdchFrameMap, DpdchFrameRead};
 
 use packed::pack;

@@ -1,4 +1,6 @@
 // DPCH frames for a C host: each call is that of the crates `frame_map` and `frame_read`, with the answer packed in one number (docs/INTERFACE.md).
+#![tactic(auto)]
+
 ghost use Rattle.slt_frame.specs.Outcome.{FrameMap, FrameRead};
 
 use packed::pack;

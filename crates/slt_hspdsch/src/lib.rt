@@ -1,4 +1,6 @@
 // HS-PDSCH for a C host: each call is that of the crates `hspdsch_map` and `hspdsch_read`, with the answer packed in one number (docs/INTERFACE.md).
+#![tactic(auto)]
+
 ghost use Rattle.slt_hspdsch.specs.Outcome.{HspdschMap, HspdschRead};
 
 use packed::pack;

@@ -1,4 +1,6 @@
 // The lengths of a mapper's runs for a C host: each call is that of the crate `lengths`, with the answer packed in one number (docs/INTERFACE.md).
+#![tactic(auto)]
+
 ghost use Rattle.std.specs.Prelude.{◌≡◌, []};
 ghost use Rattle.packed.specs.Outcome.{packed_cut};
 ghost use Rattle.dpch.specs.Compressed.{format_in};

@@ -1,4 +1,6 @@
 // P-CCPCH for a C host: each call is that of the crates `pccpch` and `pccpch_read`, with the answer packed in one number (docs/INTERFACE.md).
+#![tactic(auto)]
+
 ghost use Rattle.slt_pccpch.specs.Outcome.{PccpchMap, PccpchRead};
 
 use packed::pack;

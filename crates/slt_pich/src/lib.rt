@@ -1,4 +1,6 @@
 // PICH for a C host: each call is that of the crates `pich`, `pich_map` and `pich_read`, with the answer packed in one number (docs/INTERFACE.md).
+#![tactic(auto)]
+
 ghost use Rattle.slt_pich.specs.Outcome.{PichQ, PichMap, PichRead};
 
 use packed::pack;

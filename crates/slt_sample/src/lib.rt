@@ -1,4 +1,6 @@
 // Samples for a C host: each call is that of the crate `sample`, with the answer packed in one number (docs/INTERFACE.md).
+#![tactic(auto)]
+
 ghost use Rattle.std.specs.Prelude.{◌≡◌};
 ghost use Rattle.run.specs.Verdicts.{Narrow};
 ghost use Rattle.slt_sample.specs.Outcome.{packed_sample, SampleOff, SampleShared, SampleEach};
@@ -8,7 +10,7 @@ use sample::{Sampled, Setting};
 
 // A sample for C: number and place packed, with value 0, and the two parts beside them. An enum cannot cross to C, so there is a call for each setting.
 #[repr(C)]
-#[derive(Drop)]
+#[derive(Clone, Copy)]
 pub struct SltSample {
     pub answer: u64,
     pub inphase: f32,

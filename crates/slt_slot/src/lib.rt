@@ -1,4 +1,6 @@
 // DPCH slots for a C host: each call is that of the crates `slot_map` and `slot_read`, with the answer packed in one number (docs/INTERFACE.md).
+#![tactic(auto)]
+
 ghost use Rattle.slt_slot.specs.Outcome.{SlotMap, SlotRead};
 
 use packed::pack;

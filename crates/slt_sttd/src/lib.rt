@@ -1,4 +1,6 @@
 // STTD for a C host: each call is that of the crates `sttd_digits` and `sttd_values`, with the answer packed in one number (docs/INTERFACE.md).
+#![tactic(auto)]
+
 ghost use Rattle.slt_sttd.specs.Outcome.{SttdDigits, SttdValues};
 
 use packed::pack;

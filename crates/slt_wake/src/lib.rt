@@ -1,11 +1,13 @@
 // Wake simulation for a C host: each call is that of the crates `wake` and `wake_run`, with the answer packed in one number (docs/INTERFACE.md).
+#![tactic(auto)]
+
 ghost use Rattle.slt_wake.specs.Outcome.{WakeRun, WakeStep};
 
 use packed::pack;
 use wake::Tally;
 
 // What a step answers, and the tally afterwards.
-#[derive(Drop)]
+#[derive(Clone, Copy)]
 struct Answered {
     answer: u64,
     tally: Tally,

@@ -1,4 +1,6 @@
 // Space time block coding for two antennas, of digits (rule, promises and theorems are those of the crate `sttd`): docs/RULES.md, 'STTD'; TS 25.211, 5.3.1.1.1.
+#![tactic(auto)]
+
 ghost use Rattle.std.specs.Prelude.{◌≡◌, ◌%◌, min, length};
 ghost use Rattle.run.specs.First.{Every, at_most};
 ghost use Rattle.sttd.specs.Rule.{bar_digit};

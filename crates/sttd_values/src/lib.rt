@@ -1,5 +1,7 @@
 // Space time block coding for two antennas, of AICH values (rule, promises and theorems are those of the crate `sttd`): docs/RULES.md, 'STTD';
 // TS 25.211, 5.3.1.1.1.
+#![tactic(auto)]
+
 ghost use Rattle.std.specs.Prelude.{◌≡◌, true, length, neg_ℤ};
 ghost use Rattle.run.specs.First.{Every};
 ghost use Rattle.sttd.specs.Rule.{sttd};

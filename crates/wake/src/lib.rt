@@ -1,4 +1,6 @@
 // When a handset wakes, frame by frame of recorded PICH frames: docs/RULES.md, 'Wake simulation'; TS 25.211, 5.3.3.10.
+#![tactic(auto)]
+
 ghost use Rattle.std.specs.Prelude.{◌+◌, ◌%◌, ◌<◌, ◌≡◌, true, cond, eqb, length, get_or};
 ghost use Rattle.pich.specs.Rule.{is_np, indicators_in};
 ghost use Rattle.pich.specs.Outcome.{read_verdict};
@@ -9,7 +11,7 @@ use run::{Verdict, or_else, refusal, unless};
 
 // The running tally of a simulation, as C has it too.
 #[repr(C)]
-#[derive(Drop)]
+#[derive(Clone, Copy)]
 pub struct Tally {
     // Frames read.
     pub read: u32,
@@ -20,14 +22,14 @@ pub struct Tally {
 }
 
 // What a call answers: the tally after the frames that were read.
-#[derive(Drop)]
+#[derive(Clone, Copy)]
 pub struct Simulated {
     pub verdict: Verdict,
     pub tally: Tally,
 }
 
 // One indicator of a frame. Where the frame is refused it is of no use.
-#[derive(Drop)]
+#[derive(Clone, Copy)]
 struct Looked {
     verdict: Verdict,
     indicator: u8,

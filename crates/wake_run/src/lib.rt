@@ -1,4 +1,6 @@
 // A run over recorded PICH frames (rule, promises and theorems are those of the crate `wake`): docs/RULES.md, 'Wake simulation'; TS 25.211, 5.3.3.10.
+#![tactic(auto)]
+
 ghost use Rattle.std.specs.Prelude.{◌%◌, ◌≡◌, length};
 ghost use Rattle.wake.specs.Outcome.{Run};
 

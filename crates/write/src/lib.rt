@@ -1,4 +1,6 @@
 // Writers of a run.
+#![tactic(auto)]
+
 ghost use Rattle.std.specs.Prelude.{◌≡◌, length, replicate};
 ghost use Rattle.run.specs.Written.{over};
 

@@ -1,0 +1,30 @@
+-- `dpcch_frame_read::read_verdict` meets its contract.
+use mathlib.Core.Path.{sym, ◌∙◌}
+use Rattle.run.proofs.Chain.{or_else_refused, or_else_next}
+use Rattle.dpcch.specs.Outcome.{frame_read_verdict}
+use Rattle.dpcch.proofs.Accept.{frame_read_headed}
+use Rattle.dpcch_frame_read.proofs.read_verdict.Goals as goal
+
+pub returns-then-head-ne0 : goal.returns-then-head-ne0
+unfolding frame_read_verdict
+returns-then-head-ne0 c =
+    let e = c.read_head-head.ensures in
+    e ∙ sym (or_else_refused _ _ (rw e at c.if-head-ne0.true))
+
+pub all_fit-requires : goal.all_fit-requires
+all_fit-requires c = (frame_read_headed _ _ _ _ _ (rw c.read_head-head.ensures at c.if-head-ne0.false)).frame_ok
+
+pub returns-then-all_fit : goal.returns-then-all_fit
+unfolding frame_read_verdict
+returns-then-all_fit c =
+    let e = c.read_head-head.ensures in
+    sym (or_else_next _ _ (rw e at c.if-head-ne0.false) ∙ c.all_fit.ensures c.if-all_fit.true)
+
+pub check_digits-requires : goal.check_digits-requires
+check_digits-requires c = (frame_read_headed _ _ _ _ _ (rw c.read_head-head.ensures at c.if-head-ne0.false)).frame_ok
+
+pub returns : goal.returns
+unfolding frame_read_verdict
+returns c =
+    let e = c.read_head-head.ensures in
+    c.check_digits.ensures ∙ sym (or_else_next _ _ (rw e at c.if-head-ne0.false))

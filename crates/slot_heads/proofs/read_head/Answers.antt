@@ -1,0 +1,10 @@
+-- `slot_heads::read_head` meets its contract: the lengths are those of one slot's runs.
+use mathlib.Core.Path.{◌∙◌}
+use Rattle.slot.specs.Outcome.{read_head}
+use Rattle.slot_heads.proofs.read_head.Goals as goal
+
+pub returns : goal.returns
+unfolding read_head
+returns c =
+    let s = c.sizes_of-s.ensures in
+    c.slot_head.ensures ∙ rw (s.data_is, s.tfci_is, s.slot_is)

@@ -1,0 +1,10 @@
+-- `slt_aich::slt_aich_read_available` meets its contract: the reader's own answer, packed, which fits the fields.
+use lib.Dec.{lit<}
+use Rattle.aich.proofs.Exact.{packs}
+use Rattle.packed.proofs.Exact.{fitted}
+use Rattle.slt_aich.proofs.slt_aich_read_available.Goals as goal
+
+pub returns : goal.returns
+returns c =
+    let m = c.read_available.ensures in
+    record { answer_is = fitted 0 c.pack.ensures m.verdict_is (packs.read_available_narrow _ _ _) (lit< tt); indicators_is = m.indicators_is }

@@ -1,0 +1,10 @@
+-- `slt_dpcch::slt_dpcch_map` meets its contract: the mapper's own answer, packed, which fits the fields.
+use lib.Dec.{lit<}
+use Rattle.dpcch.proofs.Exact.{packs}
+use Rattle.packed.proofs.Exact.{fitted}
+use Rattle.slt_dpcch.proofs.slt_dpcch_map.Goals as goal
+
+pub returns : goal.returns
+returns c =
+    let m = c.map.ensures in
+    record { answer_is = fitted 0 c.pack.ensures m.verdict_is (packs.map_narrow _ _ _ _ _ _) (lit< tt); out_is = m.out_is }

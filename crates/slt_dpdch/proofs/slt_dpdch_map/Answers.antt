@@ -1,0 +1,10 @@
+-- `slt_dpdch::slt_dpdch_map` meets its contract: the mapper's own answer, packed, which fits the fields.
+use lib.Dec.{lit<}
+use Rattle.dpdch.proofs.Exact.{packs}
+use Rattle.packed.proofs.Exact.{fitted}
+use Rattle.slt_dpdch.proofs.slt_dpdch_map.Goals as goal
+
+pub returns : goal.returns
+returns c =
+    let m = c.map.ensures in
+    record { answer_is = fitted 0 c.pack.ensures m.verdict_is (packs.map_narrow _ _ _) (lit< tt); out_is = m.out_is }

@@ -1,0 +1,7 @@
+-- `slt_lengths::slt_dpcch_frame_lengths` meets its contract.
+use Rattle.lengths.proofs.Exact.{packs, short}
+use Rattle.slt_lengths.proofs.Laws.{length_packed}
+use Rattle.slt_lengths.proofs.slt_dpcch_frame_lengths.Goals as goal
+
+pub returns : goal.returns
+returns c = length_packed _ _ _ c.told.ensures c.of_dpcch_frame.ensures (packs.of_format 3 _ _ _) (short.of_dpcch_frame _ _)

@@ -1,0 +1,17 @@
+-- `sttd_values::values_verdict` meets its contract: the chain of checks is the definition's. `each` counts from 0 here.
+use Rattle.run.proofs.Chain.{each_here}
+use Rattle.sttd.specs.Outcome.{values_verdict}
+use Rattle.sttd_values.proofs.values_verdict.Goals as goal
+
+pub returns : goal.returns
+unfolding values_verdict
+returns c =
+    rw (
+      each_here,
+      c.or_else.ensures,
+      c.unless-2.ensures,
+      c.or_else-second.ensures,
+      c.unless.ensures,
+      c.unless-range.ensures,
+      c.first_outside-i.ensures,
+    )
