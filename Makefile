@@ -1,6 +1,6 @@
 # Targets: run (the program on an example job), test (the gate), lib (the proved archive for C, and the same as a shared library), slotline (the program), sim (the judge of mutants in a
-# simulator), install, bench, pictures; and the steps of test: fmt, audit, second, jobs, cases, host, examples, fuzz, package, python, sim-gate. tools-run, tools-sim and tools-test look for
-# what run, sim and test need, and kit says which kit proves.
+# simulator), install, bench, pictures, fmt (lays out the files of all crates); and the steps of test: audit, second, jobs, cases, host, examples, fuzz, package, python, sim-gate. tools-run,
+# tools-sim and tools-test look for what run, sim and test need, and kit says which kit proves.
 CFLAGS = -std=c11 -O2 -g -Wall -Wextra -Werror
 SANITIZE = -fsanitize=address,undefined -fno-sanitize-recover=all
 LIB = target/staticlib/libslt.a
@@ -19,7 +19,6 @@ READELF = readelf
 ifneq ($(shell uname -m),x86_64)
 CC = x86_64-linux-gnu-gcc
 CXX = x86_64-linux-gnu-g++
-AR = x86_64-linux-gnu-ar
 NM = x86_64-linux-gnu-nm
 READELF = x86_64-linux-gnu-readelf
 EMULATOR = qemu-x86_64-static
@@ -29,27 +28,18 @@ COMPARE = RUSTC=/usr/bin/rustc CARGO_TARGET_X86_64_UNKNOWN_LINUX_GNU_LINKER=$(CC
     /usr/bin/cargo run --target x86_64-unknown-linux-gnu
 endif
 
-.PHONY: test proved kit tools-run tools-sim tools-test steps sim sim-gate lib slotline run fmt audit pictures judges second jobs cases host examples fuzz python install package bench bench-programs bench-table clean
+.PHONY: test kit tools-run tools-sim tools-test steps sim sim-gate lib slotline run fmt audit pictures judges second jobs cases host examples fuzz python install package bench bench-programs bench-table clean
 
 # The steps go three at a time, the output of each in one piece; what most of them stand on is proved beside those that stand on nothing, which give way to it. rt ci comes last: it
-# proves every crate from nothing, tries every must-fail edit, and prints the verdict. As many checks go at a time as there are processors: more of them share the processors' caches,
-# and each takes a sixth more. Eight are the most, which is what setup/room.sh reckons with.
-export RT_JOBS := $(shell n=$$(nproc) && echo $$((n < 8 ? n : 8)) || echo 2)
+# proves every crate from nothing, tries every must-fail edit, runs the programs, looks at the layout of every file, and prints the verdict.
 GIVES_WAY = nice -n 10
 test: | tools-test
 	@echo "test: what the library stands on is proved first, which takes some minutes and is printed when it is done"
-	$(MAKE) --no-print-directory -j3 --output-sync=target -o kit PROVED=proved steps
-	$(RT) ci
-
-# All that the library stands on, in one go; of the program it is the greater part.
-proved:
-	$(ONE_RT) $(RT) check $(BELOW_C)
-
-# The prover, with its temporary files in memory where there is enough.
-RT = env TMPDIR="$$(sh setup/room.sh)" rt
+	$(MAKE) --no-print-directory -j3 --output-sync=target -o kit BEFORE=lib steps
+	@sh setup/gate.sh target/gate
 
 # The longest of them that needs the library comes first, so that no long one is left alone at the end.
-steps: fmt audit sim-gate second fuzz jobs cases host examples package python
+steps: audit sim-gate second fuzz jobs cases host examples package python
 
 # Which kit proves is said before anything is proved, and that it is another than setup/kit names, where it is.
 kit:
@@ -59,30 +49,31 @@ kit:
 tools-run tools-sim tools-test: | kit
 	@sh setup/tools.sh $(@:tools-%=%)
 
+# Lays out the files of every crate. rt ci, and so the gate, refuses files in another layout.
 fmt:
-	rt fmt --check
+	for crate in crates/*/; do (cd $$crate && rt fmt) || exit 1; done
 
-# Proves the C calls and what they stand on, and compiles them: an object for each channel's, in one archive, and the same objects in one shared library. One rt at a
-# time proves in target/; the C calls, which nothing stands on, are compiled some at a time, each in a root of its own. In the gate PROVED names the target that proves before.
-ONE_RT = mkdir -p target && flock target/one-rt
-C_CALLS = slt_slot slt_antenna slt_frame slt_compressed slt_dpdch slt_dpcch slt_pich slt_wake slt_pccpch slt_hspdsch slt_lengths slt_sttd slt_aich slt_desk slt_combiner slt_sample slt_bank
-BELOW_C = $(shell sh setup/below.sh $(C_CALLS))
-lib: | kit $(PROVED)
-	$(ONE_RT) $(RT) check $(BELOW_C)
-	printf '%s\n' $(C_CALLS) | xargs -n 1 -P $(RT_JOBS) sh setup/compile.sh
+# Proves the C calls and what they stand on, and compiles them: one archive, and a shared library of the same object. As many crates are proved at a time as there are processors, eight at most.
+# What rt proved it keeps in the crates' folders out/, so that a second call takes little. The shared library's other names are copies: rt ci refuses a link anywhere in the checkout.
+JOBS := $(shell n=$$(nproc) && echo $$((n < 8 ? n : 8)) || echo 2)
+PROVE = rt all check --jobs $(JOBS)
+lib: | kit
+	cd crates/slt && $(PROVE) && rt lib
 	rm -f $(LIB) $(SHARED)*
-	cd $(dir $(LIB)) && for name in $(C_CALLS); do $(AR) x lib$$name.a || exit 1; done && $(AR) crs $(notdir $(LIB)) $(addsuffix .o,$(C_CALLS))
-	$(CC) -shared -nostartfiles $(SHARED_FLAGS) $(patsubst %,$(dir $(LIB))%.o,$(C_CALLS)) -o $(SHARED).$(VERSION)
-	cd $(dir $(SHARED)) && ln -sf libslt.so.$(VERSION) libslt.so.$(MAJOR) && ln -sf libslt.so.$(MAJOR) libslt.so
+	install -D -m 644 crates/slt/out/libslt.a $(LIB)
+	$(CC) -shared -nostartfiles $(SHARED_FLAGS) -Wl,--whole-archive $(LIB) -Wl,--no-whole-archive -o $(SHARED).$(VERSION)
+	cd $(dir $(SHARED)) && cp libslt.so.$(VERSION) libslt.so.$(MAJOR) && cp libslt.so.$(VERSION) libslt.so
 
 # The shared library exports what the version script says. It is linked only if its code needs no change where it is loaded, and if the C library alone has what it
 # calls; with nothing to do at its start or end it has no start files.
 MAJOR = $(firstword $(subst ., ,$(VERSION)))
 SHARED_FLAGS = -Wl,-soname,libslt.so.$(MAJOR) -Wl,--version-script=packaging/libslt.map -Wl,-z,text,-z,defs,-z,relro,-z,now
 
-# Proves the program that reads a job file and what it stands on, and compiles it.
-slotline: | tools-run $(PROVED)
-	$(ONE_RT) $(RT) check slotline
+# Proves the program that reads a job file and what it stands on, and compiles it: rt does that where it runs it. In the gate BEFORE names the target that goes before, since only one rt works
+# on a crate at a time.
+slotline: | tools-run $(BEFORE)
+	cd crates/slotline && $(PROVE) && rt run < ../../examples/three_kinds.slt > /dev/null
+	install -D -m 755 crates/slotline/out/slotline $(SLOTLINE)
 ifdef EMULATOR
 	mkdir -p $(dir $(PROGRAM))
 	printf '#!/bin/sh\nexec %s "%s" "$$@"\n' $(EMULATOR) $(abspath $(SLOTLINE)) > $(PROGRAM)
@@ -207,13 +198,11 @@ install: lib slotline
 	ln -sfr "$(DESTDIR)$(PREFIX)/lib/libslt.so.$(MAJOR)" "$(DESTDIR)$(PYTHON_DIR)/slt/libslt.so.$(MAJOR)"
 
 # An installation as another project meets it: its man page, its program, a C program and a SystemVerilog bench that are told by pkg-config alone where everything is,
-# and the Python package, installed and as pip installs it.
-INSTALLED = $(abspath target/install)
-INSTALLED_PYTHON = $(shell python3 -B packaging/python_dir.py $(INSTALLED))
+# and the Python package, installed and as pip installs it. It stands outside the checkout, since an installation has links, which rt ci refuses in a checkout.
 package: lib slotline
-	rm -rf target/install target/outside
-	$(MAKE) --no-print-directory -o lib -o slotline install DESTDIR= PREFIX=$(INSTALLED)
-	CC="$(CC)" CXX="$(CXX)" EMULATOR="$(EMULATOR)" sh packaging/try.sh $(INSTALLED) target/outside $(INSTALLED_PYTHON)
+	room=$$(mktemp -d) && trap 'rm -rf "$$room"' EXIT && \
+	    $(MAKE) --no-print-directory -o lib -o slotline install DESTDIR= PREFIX="$$room/install" && \
+	    CC="$(CC)" CXX="$(CXX)" EMULATOR="$(EMULATOR)" sh packaging/try.sh "$$room/install" "$$room/outside" "$$(python3 -B packaging/python_dir.py "$$room/install")"
 
 # Ratios to plain C, to tight C and to memcpy, in one run. It fails where the library and the C beside it answer or write anything that is not the
 # same; nothing fails by its numbers. The program slotline is timed against programs of its own.
@@ -239,4 +228,4 @@ bench-table: bench-programs
 	python3 bench/table.py $(RUNS) $(RUN_BENCH)
 
 clean:
-	rm -rf target
+	rm -rf target crates/*/out

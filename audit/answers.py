@@ -14,8 +14,8 @@ def numbers(text):
 
 
 def in_specs(tree):
-    """Pairs of a call and its refusals; slot-map of the specs is slt_slot_map."""
-    return [("slt_" + name.replace("-", "_"), numbers(row)) for name, row in re.findall(r"^refusals ([\w-]+) = (.*)$", tree.text(LISTS), re.M)]
+    """Pairs of a call and its refusals; slot_map of the specs is slt_slot_map."""
+    return [("slt_" + name, numbers(row)) for name, row in re.findall(r"^refusals (\w+) = (.*)$", tree.text(LISTS), re.M)]
 
 
 def on_page(tree):

@@ -6,7 +6,7 @@
 crates            the crates of crates.txt
 public functions  `pub fn` of the libraries, the exported C functions among them; programs have none
 theorems          statements of specs/ (a type with a name and no parameters) that a crate proves: a `pub` name of proofs/ has the statement as its whole type, and is
-                  the statement's name in small letters. Laws, lemmas and the proofs of functions are not counted
+                  the statement's name in small letters, with _lem behind it where a definition has that name. Laws, lemmas and the proofs of functions are not counted
 edits             the files of must-fail/
 lines             of specs/, of src/ and of proofs/, without empty lines and without lines that are only a comment
 """
@@ -22,8 +22,8 @@ HEADS = ("at", "crates", "public functions", "theorems", "edits", "lines of spec
 
 
 def small(statement):
-    """ReadExact is proved as read-exact."""
-    return re.sub(r"(?<!^)([A-Z])", r"-\1", statement).lower()
+    """ReadExact is proved as read_exact."""
+    return re.sub(r"(?<!^)([A-Z])", r"_\1", statement).lower()
 
 
 def theorems(tree):
@@ -32,8 +32,8 @@ def theorems(tree):
     stated = {name for path in tree.under("crates/*/specs/*.antt") for name in form.findall(tree.text(path))}
     found = set()
     for path in tree.under("crates/*/proofs/*.antt"):
-        for name, statement in re.findall(r"^pub ([\w-]+) : ([A-Z]\w*)$", tree.text(path), re.M):
-            if statement in stated and name == small(statement):
+        for name, statement in re.findall(r"^pub (\w+) : ([A-Z]\w*)$", tree.text(path), re.M):
+            if statement in stated and name.removesuffix("_lem") == small(statement):
                 found.add((path.split("/")[1], name))
     return found
 

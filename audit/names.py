@@ -6,7 +6,7 @@ import pathlib
 import re
 
 # Made by tools and never committed: a page may not lean on what stands there.
-MADE = {"target", ".git", "__pycache__"}
+MADE = {"target", "out", ".git", "__pycache__"}
 # A declaration of antt that other files can see. In a file of specs/ or proofs/ one that is indented may be a field of a record.
 DECLARED = re.compile(r"^( *)(?:unfoldable |abbrev )*pub (?:record |data )?([^\s:(){}]+)", re.M)
 ITEM = re.compile(r"^(?:pub(?:\(crate\))? )?(?:extern \"C\" )?(?:fn|struct|enum|const|mod) (\w+)", re.M)
@@ -81,9 +81,9 @@ class Tree:
 
     @functools.cached_property
     def stands_on(self):
-        """crates.txt: each crate and the crates that it names, in the file's order."""
+        """crates.txt: each crate and the crates that it names, in the file's order. Behind the name of a static library stands that it is one."""
         lines = [line.split("#")[0] for line in self.text("crates.txt").splitlines()]
-        return {name.strip(): rest.split() for name, colon, rest in (line.partition(":") for line in lines) if colon}
+        return {name.split()[0]: rest.split() for name, colon, rest in (line.partition(":") for line in lines) if colon}
 
     @property
     def crates(self):
@@ -159,7 +159,7 @@ class Tree:
 
     @functools.cached_property
     def make_variables(self):
-        return set(re.findall(r"^(?:export )?([A-Z_]+) =", self.text("Makefile"), re.M)) | {"DESTDIR"}
+        return set(re.findall(r"^(?:export )?([A-Z_]+) :?=", self.text("Makefile"), re.M)) | {"DESTDIR"}
 
     def crate_names(self, crate):
         """All that a page may say to be of a crate. The promises and theorems of a crate NAME_PART stand in NAME."""

@@ -31,11 +31,10 @@ TEXTS = {
     r"results(s) = 32·(\|h1\|²+\|h2\|²)·indicator(s)",
     r"results(s) = 32·(\|h1\|²+\|h2\|²)·indicator(s) + alone(s)",
     "N passed, 0 failed",
-    "NAME proved (N s)",
 }
 # Columns whose words are wrong on purpose, and what tries each of them.
 FREE = {"there stands": "examples/try_mistakes.py"}
-RT = {"check", "ci", "dev", "fmt", "must-fail", "prove", "staticlib", "try", "version"}
+RT = {"all", "check", "ci", "fmt", "lib", "must-fail", "run", "tidy", "try", "version"}
 # A line that slotline prints: its first word, and words in capitals for what changes. A refusal that is printed has a number that there is.
 PRINTED = re.compile(r"(SLT|AICH|PICH|DPCH|refused)( 1)?( [A-Z]+)*")
 REFUSED = re.compile(r"refused (\d+) (\d+)")
@@ -48,7 +47,9 @@ def blank(match):
 
 
 def pages(tree):
-    return ["README.md", "CONTRIBUTING.md", "python/README.md", *tree.under("docs/*.md")]
+    # The page on the move from the older kit names what is gone.
+    told = [page for page in tree.under("docs/*.md") if page != "docs/PORT.md"]
+    return ["README.md", "CONTRIBUTING.md", "python/README.md", *told]
 
 
 def without_free(text):
@@ -142,7 +143,7 @@ def is_command(tree, word):
         named = [part.partition("=") for part in rest]
         return bool(rest) and all(name in (tree.make_variables if equal else tree.make_targets) for name, equal, value in named)
     if first == "rt":
-        return rest[:1] != [] and rest[0] in RT and all(part in tree.crates or part == "NAME" or part.startswith("--") for part in rest[1:])
+        return rest[:1] != [] and rest[0] in RT and all(part in tree.crates | RT or part == "NAME" or part.startswith("--") for part in rest[1:])
     if first == "pkg-config":
         return rest != [] and tree.has(f"packaging/{rest[-1]}.pc.in") and all(part.startswith("--") for part in rest[:-1])
     return first.startswith("-") and not rest and first in tree.text("Makefile").split()
@@ -164,7 +165,7 @@ KINDS = (is_name, is_path, is_item, is_call, is_command, is_expression)
 def known(tree, word):
     refusal = REFUSED.fullmatch(word)
     if refusal:
-        return re.search(rf"^\w+Refused = {refusal[1]}$", tree.text("crates/run/specs/Refusals.antt"), re.M) is not None
+        return re.search(rf"^\w+_refused = {refusal[1]}$", tree.text("crates/run/specs/Refusals.antt"), re.M) is not None
     return word in TEXTS or word == kit.identity(tree) or PRINTED.fullmatch(word) is not None or any(kind(tree, word) for kind in KINDS)
 
 

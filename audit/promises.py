@@ -63,7 +63,7 @@ def check_edit(tree, path):
 
 def once_of(row):
     """The theorems of a row that its promise allows one outcome. A part's stands beside its promise, where that is a record: an equation allows one as it stands."""
-    return names(row["once"]) if "once" in row else [name for name in names(row.get("promise", "")) if name.endswith("-once")]
+    return names(row["once"]) if "once" in row else [name for name in names(row.get("promise", "")) if name.endswith("_once")]
 
 
 def is_equation(tree, row):
@@ -77,7 +77,7 @@ def check_row(tree, row, function):
         if not any(name in tree.theorems.get(place, ()) for place in (crate, crate.split("_")[0])):
             yield f"{function}: no theorem {name} in its crate"
     for name in names(row.get("theorems", "")):
-        if re.fullmatch(r"[a-z0-9-]+", name) and name not in tree.crates and not anywhere(tree.theorems, name):
+        if re.fullmatch(r"[a-z0-9_]+", name) and name not in tree.crates and not anywhere(tree.theorems, name):
             yield f"{function}: no theorem {name}"
     promised = names(row.get("promise", ""))
     if not any(anywhere(tree.definitions, name) for name in promised) and promised[:1] not in (["min"], ["replicate"]):
@@ -92,7 +92,7 @@ def check_row(tree, row, function):
 
 def check_models(tree, row):
     for name in names(row["theorem"]):
-        if re.fullmatch(r"[a-z][a-z0-9-]+", name) and not anywhere(tree.theorems, name):
+        if re.fullmatch(r"[a-z][a-z0-9_]+", name) and not anywhere(tree.theorems, name):
             yield f"useless models: no theorem {name}"
     for name in names(row["edit"]):
         if not anywhere(tree.edits, name):

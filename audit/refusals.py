@@ -8,13 +8,13 @@ RULES, INTERFACE, JOBFILE = "docs/RULES.md", "docs/INTERFACE.md", "docs/JOBFILE.
 
 
 def constant(name):
-    """formatRefused of the specs is FORMAT in the code and SLT_REFUSED_FORMAT in the header."""
-    return re.sub(r"(?<!^)([A-Z])", r"_\1", name.removesuffix("Refused")).upper()
+    """format_refused of the specs is FORMAT in the code and SLT_REFUSED_FORMAT in the header."""
+    return name.removesuffix("_refused").upper()
 
 
 def listed(tree):
     """The lists that give names: of the specs, of the code and of the header, as pairs of a name and a number."""
-    specs = re.findall(r"^(\w+Refused) = (\d+)$", tree.text(SPECS), re.M)
+    specs = re.findall(r"^(\w+_refused) = (\d+)$", tree.text(SPECS), re.M)
     return {
         SPECS: [(constant(name), int(number)) for name, number in specs],
         CODE: [(name, int(number)) for name, number in re.findall(r"^pub const (\w+): usize = (\d+);", tree.text(CODE), re.M)],

@@ -11,7 +11,7 @@ PICH, PCCPCH, STTD, HSPDSCH, FRAME, GAP, ANTENNA, WAKE, SIGNATURE, AICH, DESK, C
 COMBINER, JOB_HEAD, BANK, SLOTS = "crates/combiner/specs/Outcome.antt", "crates/job/specs/Outcome.antt", "crates/bank/specs/Layout.antt", "crates/bank/specs/Slots.antt"
 DESK_PAGE = "docs/DESK.md"
 # The tables of formats: the file, the table's name, the definition of its rows and that of the fields' order.
-DPCH, DPCCH = (FORMATS, "formats", "row", "widths"), (UPLINK, "dpcchFormats", "dpcchRow", "dpcchWidths")
+DPCH, DPCCH = (FORMATS, "formats", "row", "widths"), (UPLINK, "dpcch_formats", "dpcch_row", "dpcch_widths")
 
 
 class Unread(Exception):
@@ -51,7 +51,7 @@ def listed(tree, path, name, row, widths):
 
 def fields(tree, path, name, row, widths):
     """The fields of a slot in their order: those of the definition of their widths."""
-    return re.findall(r"f \.(\w+)", found(tree, path, rf"^{widths} f = (.*?)$")[1])
+    return re.findall(r"f\.(\w+)", found(tree, path, rf"^{widths} f = (.*?)$")[1])
 
 
 def filled(path, order, row):
@@ -68,14 +68,14 @@ def slots(tree, table):
 
 
 def compressed(tree):
-    """The rows of compressed frames by their names, 0A, 0B, 1B and so on; noRow stands where the table has none. The last two columns are the slots that are transmitted,
+    """The rows of compressed frames by their names, 0A, 0B, 1B and so on; no_row stands where the table has none. The last two columns are the slots that are transmitted,
     at least and at most."""
-    columns, fewest, most = found(tree, COMPRESSED, r"^compressedRow kind ([\w ]+) =\n[^\n]*fewest = (\d+); most = (\d+) }$").groups()
+    columns, fewest, most = found(tree, COMPRESSED, r"^compressed_row kind ([\w ]+) =\n[^\n]*fewest = (\d+); most = (\d+) }$").groups()
     rows = {}
     for letter in "AB":
-        table = found(tree, COMPRESSED, rf"^formats{letter} =\n(.*?)\[\]$")[1]
-        for number, line in enumerate(re.findall(rf"(noRow|row{letter} (?:\d+ ?)+)$", table, re.M)):
-            if line != "noRow":
+        table = found(tree, COMPRESSED, rf"^formats_{letter.lower()} =\n(.*?)\[\]$")[1]
+        for number, line in enumerate(re.findall(rf"(no_row|row_{letter.lower()} (?:\d+ ?)+)$", table, re.M)):
+            if line != "no_row":
                 rows[f"{number}{letter}"] = dict(zip(columns.split(), map(int, line.split()[1:]), strict=True), fewest=int(fewest), most=int(most))
     return dict(sorted(rows.items(), key=lambda row: (int(row[0][:-1]), row[0][-1])))
 
@@ -88,7 +88,7 @@ def compressed_slots(tree):
 
 def dpdch(tree):
     """The same of the uplink DPDCH, whose only field is data."""
-    sizes = [int(word) for word in found(tree, UPLINK, r"^dpdchSizes = ((?:\d+ ∷ )+)\[\]$")[1].split(" ∷ ")[:-1]]
+    sizes = [int(word) for word in found(tree, UPLINK, r"^dpdch_sizes = ((?:\d+ ∷ )+)\[\]$")[1].split(" ∷ ")[:-1]]
     return [([("data", size)], size) for size in sizes]
 
 
@@ -107,30 +107,30 @@ def pilots(tree):
 
 def frame_slots(tree):
     """The slots of a frame."""
-    return numbers(tree, FRAME, r"^frameOf f d tfci commands = joined \(tab (\d+) \(slotAt f d tfci commands\)\)$")[0]
+    return numbers(tree, FRAME, r"^frame_of f d tfci commands = joined \(tab (\d+) \(slot_at f d tfci commands\)\)$")[0]
 
 
 def gap(tree):
     """The slots of a frame, how many are sent at least and at most, whether a slot is missing, and which of the sent ones it is."""
     count = numbers(tree, GAP, r"^transmitted missing = (\d+) - missing$")[0]
-    found(tree, GAP, r"^isMissing first missing k = leb first k && ltb k \(first \+ missing\)$")
-    found(tree, GAP, r"^turnOf first missing k = cond \(ltb k first\) k \(k - missing\)$")
+    found(tree, GAP, r"^is_missing first missing k = leb first k && ltb k \(first \+ missing\)$")
+    found(tree, GAP, r"^turn_of first missing k = cond \(ltb k first\) k \(k - missing\)$")
     fewest, most = numbers(tree, COMPRESSED, r"fewest = (\d+); most = (\d+) }$")
     return count, fewest, most, lambda first, missing, k: first <= k < first + missing, lambda first, missing, k: k if k < first else k - missing
 
 
 def second_antenna(tree):
     """Up to which format the first digits are the same on both antennas, how many those are, and how long a pilot is that goes by blocks."""
-    few, start = numbers(tree, ANTENNA, r"^codedFrom format = cond \(leb format (\d+)\) (\d+) 0$")
-    whole = numbers(tree, ANTENNA, r"^codedTo format = cond \(eqb \(formatOf format \.pilot\) (\d+)\) \(formatOf format \.slot\) \(pilotStart format\)$")[0]
+    few, start = numbers(tree, ANTENNA, r"^coded_from format = cond \(leb format (\d+)\) (\d+) 0$")
+    whole = numbers(tree, ANTENNA, r"^coded_to format = cond \(eqb \(format_of format\)\.pilot (\d+)\) \(format_of format\)\.slot \(pilot_start format\)$")[0]
     return few, start, whole
 
 
 def pich(tree):
     """The frame's length, where its tail begins, and each Np with the digits of one indicator."""
-    length, tail = map(int, found(tree, PICH, r"^frameOf np indicators = tab (\d+) \(λ \(k : ℕ\)\. cond \(ltb k (\d+)\)").groups())
+    length, tail = map(int, found(tree, PICH, r"^frame_of np indicators = tab (\d+) \(λ \(k : ℕ\)\. cond \(ltb k (\d+)\)").groups())
     total = int(found(tree, PICH, r"^width np = (\d+) / np$")[1])
-    numbers = [int(np) for np in re.findall(r"eqb np (\d+)", found(tree, PICH, r"^isNp np = (.*?)$")[1])]
+    numbers = [int(np) for np in re.findall(r"eqb np (\d+)", found(tree, PICH, r"^is_np np = (.*?)$")[1])]
     if total != tail or any(tail % np for np in numbers):
         raise Unread(f"{PICH}: the indicators do not fill the digits before the tail")
     return length, tail, [(np, tail // np) for np in numbers]
@@ -152,32 +152,32 @@ def block(tree):
 
 def hspdsch(tree):
     """The slots of the HS-PDSCH, whose only field is data."""
-    sizes = [int(word) for word in found(tree, HSPDSCH, r"^slotSizes = ((?:\d+ ∷ )+)\[\]$")[1].split(" ∷ ")[:-1]]
+    sizes = [int(word) for word in found(tree, HSPDSCH, r"^slot_sizes = ((?:\d+ ∷ )+)\[\]$")[1].split(" ∷ ")[:-1]]
     return [([("data", size)], size) for size in sizes]
 
 
 def figure(tree):
     """What antenna 2 sends for a block of eight: for each place the digit, and whether it has a bar."""
-    words = found(tree, HSPDSCH, r"^figure8A = ((?:(?:bar|plain) \d ∷ )+)\[\]$")[1].split(" ∷ ")[:-1]
+    words = found(tree, HSPDSCH, r"^figure8_a = ((?:(?:bar|plain) \d ∷ )+)\[\]$")[1].split(" ∷ ")[:-1]
     return [(int(word[-1]), word.startswith("bar ")) for word in words]
 
 
 def subframe(tree):
     """The slots of a subframe of the HS-PDSCH."""
-    return numbers(tree, HSPDSCH, r"^size format = (\d+) \* getD slotSizes format 0$")[0]
+    return numbers(tree, HSPDSCH, r"^size format = (\d+) \* get_or slot_sizes format 0$")[0]
 
 
 def wake(tree):
     """Which indicator is a handset's in a frame, the SFN of frame k, and the last SFN."""
-    count = numbers(tree, WAKE, r"^sfnAt first k = cond \(eqb k 0\) first \(\(first \+ k\) % (\d+)\)$")[0]
-    return formula(tree, PICH, "qOf", "np pi sfn"), lambda first, k: (first + k) % count, count - 1
+    count = numbers(tree, WAKE, r"^sfn_at first k = cond \(eqb k 0\) first \(\(first \+ k\) % (\d+)\)$")[0]
+    return formula(tree, PICH, "q_of", "np pi sfn"), lambda first, k: (first + k) % count, count - 1
 
 
 def signatures(tree):
     """How many signatures there are, how many values each has, and whether signature s has +1 at value j."""
-    count = numbers(tree, AICH, r"^valueAt indicators j = sum (\d+) ")[0]
-    values = numbers(tree, AICH, r"^valuesOf indicators = tab (\d+) \(valueAt indicators\)$")[0]
-    found(tree, SIGNATURE, r"^isPlus s j = eqb \(ones \(bitAnd s \(j / 2\)\) % 2\) 0$")
+    count = numbers(tree, AICH, r"^value_at indicators j = sum (\d+) ")[0]
+    values = numbers(tree, AICH, r"^values_of indicators = tab (\d+) \(value_at indicators\)$")[0]
+    found(tree, SIGNATURE, r"^is_plus s j = eqb \(ones \(bit_and s \(j / 2\)\) % 2\) 0$")
     return count, values, lambda s, j: bin(s & j // 2).count("1") % 2 == 0
 
 
@@ -189,8 +189,8 @@ def answers(place_of, heard, available, last, n):
 
 def desk(tree):
     """The slots of the desk's page, worked out by the rule; the signatures in order from behind one; and the distances for each timing."""
-    place_of, at = formula(tree, DESK, "placeOf", "last s"), formula(tree, DESK, "signatureAt", "last place")
-    last, rows = numbers(tree, DESK, r"^freshLast = (\d+)$")[0], []
+    place_of, at = formula(tree, DESK, "place_of", "last s"), formula(tree, DESK, "signature_at", "last place")
+    last, rows = numbers(tree, DESK, r"^fresh_last = (\d+)$")[0], []
     n = numbers(tree, DESK_PAGE, r"^All of the three are called with n = (\d+)\.$")[0]
     for slot, before, heard, available, after in re.findall(r"^\| (\d) \| (\d+).*?\(0x(\w+)\) \|.*?\(0x(\w+)\) \|.*\| (\d+) \|$", tree.text(DESK_PAGE), re.M):
         given, rest = answers(place_of, int(heard, 16), int(available, 16), last, n)
@@ -200,14 +200,14 @@ def desk(tree):
         last = rest
     if not rows:
         raise Unread(f"{DESK_PAGE}: a picture shows its slots, and there are none")
-    distances = [numbers(tree, DESK, rf"^{name} timing = cond \(eqb timing 0\) (\d+) (\d+)$") for name in ("toAich", "toMessage")]
+    distances = [numbers(tree, DESK, rf"^{name} timing = cond \(eqb timing 0\) (\d+) (\d+)$") for name in ("to_aich", "to_message")]
     return rows, lambda last: [at(last, place) for place in range(16)], list(zip(*distances, strict=True))
 
 
 def combiner(tree):
     """The bound of a gain's parts and that of received parts, how many of these there are, and how many results."""
-    gain, = numbers(tree, COMBINER, r"^gainIn = between \(negsuc \d+\) \(pos (\d+)\)$")
-    part, = numbers(tree, COMBINER, r"^partIn = inRange \(negsuc \d+\) \(pos (\d+)\)$")
+    gain, = numbers(tree, COMBINER, r"^gain_in = between \(negsuc \d+\) \(pos (\d+)\)$")
+    part, = numbers(tree, COMBINER, r"^part_in = in_range \(negsuc \d+\) \(pos (\d+)\)$")
     return gain, part, *numbers(tree, COMBINER, r"eqb receivedLength (\d+)\).*?eqb resultsLength (\d+)\)")
 
 
@@ -228,7 +228,7 @@ def block_of_pair(tree):
 
 def sample(tree):
     """The bound of a value, and the levels: one over the least, and the greatest."""
-    value, = numbers(tree, SAMPLE, r"^isValue = between \(negsuc \d+\) \(pos (\d+)\)$")
+    value, = numbers(tree, SAMPLE, r"^is_value = between \(negsuc \d+\) \(pos (\d+)\)$")
     low, = numbers(tree, SAMPLE, r"^lowest = fin false 1 \(negsuc (\d+)\)$")
     high, = numbers(tree, SAMPLE, r"^highest = fin false 1 \(pos (\d+)\)$")
     return value, 2 ** (low + 1), 2 ** high
@@ -237,18 +237,18 @@ def sample(tree):
 def bank(tree):
     """The mark, the bytes of the header, those of a slot beside its digits, the least and the most bytes of a buffer, and of a slot's digits."""
     letters = numbers(tree, BANK, r"^head n = (\d+) ∷ (\d+) ∷ (\d+) ∷ (\d+) ∷ n / 16777216 ∷")
-    found(tree, BANK, r"^slotBytes s = s \.number ∷ 0 ∷ length \(s \.digits\) / 256 ∷ length \(s \.digits\) % 256 ∷ s \.digits$")
-    head, = numbers(tree, SLOTS, r"^taken ss = (\d+) \+ total \(map sizeOf ss\)$")
-    beside, = numbers(tree, SLOTS, r"^sizeOf s = (\d+) \+ length \(s \.digits\)$")
-    return "".join(map(chr, letters)), head, beside, numbers(tree, BANK, r"^isRoom n = leb (\d+) n && leb n (\d+)$"), numbers(tree, SLOTS, r"^isLength n = leb (\d+) n && leb n (\d+)$")
+    found(tree, BANK, r"^slot_bytes s = s\.number ∷ 0 ∷ length s\.digits / 256 ∷ length s\.digits % 256 ∷ s\.digits$")
+    head, = numbers(tree, SLOTS, r"^taken ss = (\d+) \+ total \(map size_of ss\)$")
+    beside, = numbers(tree, SLOTS, r"^size_of s = (\d+) \+ length s\.digits$")
+    return "".join(map(chr, letters)), head, beside, numbers(tree, BANK, r"^is_room n = leb (\d+) n && leb n (\d+)$"), numbers(tree, SLOTS, r"^is_length n = leb (\d+) n && leb n (\d+)$")
 
 
 def jobfile(tree):
     """The mark; of each version its number, the bytes that count the records, and the most bytes of a file; of each kind its number and, where that is fixed, its bytes."""
-    mark = "".join(chr(int(word)) for word in re.findall(r"eqb \(getD file \d 0\) (\d+)\) \(WrongMark", tree.text(JOB_HEAD)))
-    versions = numbers(tree, JOB, r"^isVersion version = eqb version (\d+) \|\| eqb version (\d+)$")
-    widths = numbers(tree, JOB, r"^widthOf version = cond \(eqb version 1\) (\d+) (\d+)$")
-    limits = numbers(tree, JOB, r"^limitOf version = cond \(eqb version 1\) (\d+) (\d+)$")
-    aich, = numbers(tree, KINDS, r"^sizeOf kind second = byKind kind (\d+) ")
-    kinds = {name: (numbers(tree, KINDS, rf"^{name}Kind = (\d+)$")[0], aich if name == "aich" else None) for name in ("aich", "pich", "dpch")}
+    mark = "".join(chr(int(word)) for word in re.findall(r"eqb \(get_or file \d 0\) (\d+)\) \(WrongMark", tree.text(JOB_HEAD)))
+    versions = numbers(tree, JOB, r"^is_version version = eqb version (\d+) \|\| eqb version (\d+)$")
+    widths = numbers(tree, JOB, r"^width_of version = cond \(eqb version 1\) (\d+) (\d+)$")
+    limits = numbers(tree, JOB, r"^limit_of version = cond \(eqb version 1\) (\d+) (\d+)$")
+    aich, = numbers(tree, KINDS, r"^size_of kind second = by_kind kind (\d+) ")
+    kinds = {name: (numbers(tree, KINDS, rf"^{name}_kind = (\d+)$")[0], aich if name == "aich" else None) for name in ("aich", "pich", "dpch")}
     return mark, list(zip(versions, widths, limits, strict=True)), kinds

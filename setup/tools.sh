@@ -6,7 +6,7 @@
 set -eu
 command=${1:?run, sim or test}
 
-# The one list: a tool, the package of Debian that has it, and which command needs it (sim needs all that run needs, test needs all). rt itself uses some of them. What has the
+# The one list: a tool, the package of Debian that has it, and which command needs it (sim needs all that run needs, test needs all). rt itself is a program in Python. What has the
 # mark 'else' is for processors other than x86-64, for which the prover compiles: there it is what compiles and runs programs of x86-64. What has the mark 'may' the
 # command can do without: a step that has it does more.
 tools() {
@@ -15,16 +15,14 @@ tools() {
         if test "$needed" = run || test "$needed" = "$command" || test "$command" = test; then "$1" "$tool" "$package" "$mark"; fi
     done << 'LIST'
 make        make        run
-flock       util-linux  run
-awk         mawk        run
+python3     python3     run
 sed         sed         run
-find        findutils   run
-cmp         diffutils   run
+awk         mawk        test
+cmp         diffutils   test
 cc          gcc         sim
 ar          binutils    sim
 nm          binutils    test
 readelf     binutils    test
-python3     python3     sim
 g++         g++         sim
 verilator   verilator   sim
 yosys       yosys       sim
