@@ -31,7 +31,7 @@ endif
 .PHONY: test kit tools-run tools-sim tools-test steps sim sim-gate lib slotline run fmt audit pictures judges second jobs cases host examples fuzz python install package bench bench-programs bench-table clean
 
 # The steps go three at a time, the output of each in one piece; what most of them stand on is proved beside those that stand on nothing, which give way to it. rt ci comes last: it
-# proves every crate from nothing, tries every must-fail edit, runs the programs, looks at the layout of every file, and prints the verdict.
+# proves every crate, tries every must-fail edit, runs the programs, looks at the layout of every file, and prints the verdict.
 GIVES_WAY = nice -n 10
 test: | tools-test
 	@echo "test: what the library stands on is proved first, which takes some minutes and is printed when it is done"

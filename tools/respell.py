@@ -4,7 +4,7 @@
 usage: respell.py [--check]      at the top of the repository
 
 A name in lower camel case or with dashes gets underscores: orElse and or-else-done become or_else and or_else_done. Types and modules keep their capitals. Names of Rust
-source, of the toolchain's libraries, and those that Rattle makes for proofs stay as they are. Where two names would fall together, KEPT says what the second is called.
+source, of the toolchain's libraries, and those that Rattle makes for proofs stay as they are. Where two names would fall together, LEMMAS, LENGTHS and TURNED say what the second is called.
 In comments and pages a name is turned only between back quotes. It runs once, behind the toolchain's own port.py.
 """
 
