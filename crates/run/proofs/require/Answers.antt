@@ -1,6 +1,6 @@
--- `run::unless` meets its contract.
+-- `run::require` meets its contract.
 use Rattle.run.specs.Verdicts.{unless}
-use Rattle.run.proofs.unless.Goals as goal
+use Rattle.run.proofs.require.Goals as goal
 
 pub returns-then-ok : goal.returns-then-ok
 unfolding unless
