@@ -1,10 +1,10 @@
--- `compressed::read_head` meets its contract.
+-- `compressed::check_read_head` meets its contract.
 use mathlib.Core.Path.{◌∙◌}
 use Prim.Native.Nat.{◌≤◌}
 use native.Mathlib.Omega.{arith}
 use Rattle.compressed.specs.Outcome.{read_head}
 use Rattle.compressed.proofs.Gap.{small_product}
-use Rattle.compressed.proofs.read_head.Goals as goal
+use Rattle.compressed.proofs.check_read_head.Goals as goal
 
 pub overflow_mul-n : goal.overflow_mul-n
 overflow_mul-n c =
@@ -22,4 +22,4 @@ pub returns : goal.returns
 unfolding read_head
 returns c =
     let s = c.row_sizes-s.ensures in
-    c.gap_head.ensures ∙ rw (c.format_in.ensures, c.transmitted-n.ensures, s.data_is, s.tfci_is, s.slot_is)
+    c.check_gap_head.ensures ∙ rw (c.format_in.ensures, c.transmitted-n.ensures, s.data_is, s.tfci_is, s.slot_is)
