@@ -15,10 +15,10 @@ import package
 MAN = "packaging/slotline.1"
 # What a page may write as code though the tree declares nothing of that name.
 WORDS = {
-    "the languages' own words": "requires, ensures, .ensures, match, rw, pub fn, extern \"C\", i32, i64, u16, u32, usize",
+    "the languages' own words": "requires, ensures, .ensures, match, rw, pub fn, extern \"C\", i32, i64, u16, u32, usize, ?, Result, Option",
     "types and functions of C": "size_t, uint16_t, uint64_t, memcpy, memset",
     "Python's own words and tools": "ctypes, mypy, pip, unittest, nm -D",
-    "functions of the provers' libraries": "min, replicate",
+    "functions of the provers' libraries": "min, replicate, position",
     "the kit's own programs": "rt, rattle, antt",
     "variables of a formula on the page": "alone, base",
     "digits, and bytes of a file that is refused": "0, 1, +, -, SLX, SL",
@@ -47,8 +47,8 @@ def blank(match):
 
 
 def pages(tree):
-    # The page on the move from the older kit names what is gone.
-    told = [page for page in tree.under("docs/*.md") if page != "docs/PORT.md"]
+    # The pages on the move from the older kit and on the older forms name what is gone.
+    told = [page for page in tree.under("docs/*.md") if page not in ("docs/PORT.md", "docs/DESIGN-PASS.md")]
     return ["README.md", "CONTRIBUTING.md", "python/README.md", *told]
 
 

@@ -8,8 +8,13 @@ RULES, INTERFACE, JOBFILE = "docs/RULES.md", "docs/INTERFACE.md", "docs/JOBFILE.
 
 
 def constant(name):
-    """format_refused of the specs is FORMAT in the code and SLT_REFUSED_FORMAT in the header."""
+    """format_refused of the specs is FORMAT, as SLT_REFUSED_FORMAT of the header is; the code has it as a variant."""
     return name.removesuffix("_refused").upper()
+
+
+def variant(name):
+    """EndsEarly of the code is ENDS_EARLY in the header."""
+    return re.sub(r"(?<=[a-z])(?=[A-Z])", "_", name).upper()
 
 
 def listed(tree):
@@ -17,18 +22,17 @@ def listed(tree):
     specs = re.findall(r"^(\w+_refused) = (\d+)$", tree.text(SPECS), re.M)
     return {
         SPECS: [(constant(name), int(number)) for name, number in specs],
-        CODE: [(name, int(number)) for name, number in re.findall(r"^pub const (\w+): usize = (\d+);", tree.text(CODE), re.M)],
+        CODE: [(variant(name), int(number)) for name, number in re.findall(r"^    ([A-Z]\w*) = (\d+),$", tree.text(CODE), re.M)],
         HEADER: [(name, int(number)) for name, number in re.findall(r"^#define SLT_REFUSED_(\w+) (\d+)u", tree.text(HEADER), re.M)],
     }
 
 
 def remarks(tree):
-    """In both lists of the crate a remark `N: ..` stands over each name: its number is the name's."""
-    for path, form in ((SPECS, r"^-- (\d+): .*\n(?:--.*\n)*abbrev pub (\w+) .*\n\2 = (\d+)$"), (CODE, r"^// (\d+): .*\n(?://.*\n)*pub const (\w+): usize = (\d+);")):
-        found = re.findall(form, tree.text(path), re.M)
-        yield from (f"{path}: the remark over {name} says {said}" for said, name, number in found if said != number)
-        if len(found) != len(listed(tree)[path]):
-            yield f"{path}: a name without the remark that says its number"
+    """In the list of the specs a remark `N: ..` stands over each name: its number is the name's. In the code each number stands in its variant's line."""
+    found = re.findall(r"^-- (\d+): .*\n(?:--.*\n)*abbrev pub (\w+) .*\n\2 = (\d+)$", tree.text(SPECS), re.M)
+    yield from (f"{SPECS}: the remark over {name} says {said}" for said, name, number in found if said != number)
+    if len(found) != len(listed(tree)[SPECS]):
+        yield f"{SPECS}: a name without the remark that says its number"
 
 
 def column(tree, page, head):

@@ -4,28 +4,26 @@
 use mathlib.Core.Path.{◌≡◌, refl, sym, ap, ◌∙◌}
 use mathlib.Core.Bool.{Bool, true, false, ◌||◌}
 use mathlib.Core.List.{List}
-use Prim.Native.Nat.{ℕ, ◌≤◌, ◌<◌}
+use Prim.Native.Nat.{ℕ, ◌<◌}
 use native.Mathlib.Omega.{arith}
-use borrow.Author.Tests.{leb-true, leb-false}
 use lib.Dec.{lit<}
 use lib.ListN.{length, get_or}
 use lib.IntN.{ℤ, pos}
-use Rattle.run.specs.declared.Verdict.{Verdict}
+use Rattle.run.specs.Verdict.{Verdict}
 use Rattle.run.specs.First.{first_bad, all, Every}
 use Rattle.run.specs.Refusals.{signature_refused}
-use Rattle.run.specs.Verdicts.{refused, done, or_else, leaves}
-use Rattle.run.proofs.First.{first_below, first_fails, first_same, none_first, every_by}
-use Rattle.run.proofs.Chain.{or_else_done, or_else_next, or_else_refused, or_else_pass, or_else_plain, or_else_last, unless_plain, each_plain, each_done, each_pass, each_stops, each_told, leaves_done, leaves_refused, one_outcome, number_0}
+use Rattle.run.specs.Verdicts.{refused, done, or_else, each, leaves}
+use Rattle.run.proofs.First.{first_below, first_fails, first_same, every_by}
+use Rattle.run.proofs.Chain.{or_else_done, or_else_pass, or_else_plain, or_else_last, unless_plain, each_plain, each_done, each_pass, each_told, one_outcome, number_0}
 use Rattle.whole.specs.Equal.{eq_z}
 use Rattle.whole.proofs.Equal.{eq_z_true, eq_eq_z}
 use Rattle.aich.specs.Rule.{values_of, indicators_in, offers, allows}
-use Rattle.aich.specs.Outcome.{map_verdict, read_head, read_verdict, Read, set_verdict, map_available_verdict, MapAvailable, read_available_verdict, ReadAvailable}
-use Rattle.aich.specs.Method.{firsts, half_of, alike, fits_at, units_of}
+use Rattle.aich.specs.Outcome.{map_verdict, given, read_head, read_verdict, set_verdict, map_available_verdict, read_available_verdict}
+use Rattle.aich.specs.Method.{firsts, half_of}
 use Rattle.aich.specs.Exact.{Gives}
 use Rattle.aich.specs.Available.{Zero, SetIs, GivesUnder, AvailableExact, AllAvailable, Within, LargerSet, AvailableOnce}
 use Rattle.aich.proofs.Laws.{fit_zero}
-use Rattle.aich.proofs.Reading.{indicator_is, units_are, units_give}
-use Rattle.aich.proofs.Checks.{read_done as base_done}
+use Rattle.aich.proofs.Reading.{indicator_is, all_alike, all_fit}
 use Rattle.aich.proofs.Exact.{read_exact}
 
 -- ---- the check of the set
@@ -181,88 +179,16 @@ available_once =
       read = λ available v x a b y z p r. (one_outcome p.verdict_is r.verdict_is, one_outcome p.indicators_is r.indicators_is);
     }
 
--- ---- how the calls end
+-- ---- the set is asked of the sums, each of which is 0 where its indicator is
 
--- the outcome of a call whose own verdict is `base` and that then asks the set for the indicators x
-record Ended (base : Verdict) (available : ℕ) (x new old : List ℤ) (answer : Verdict) (after : List ℤ) : Type 0 where
-  pub answered : answer ≡ or_else base (set_verdict available x)
-  pub left : after ≡ leaves (or_else base (set_verdict available x)) new old
+module _ (available : ℕ) (v : List ℤ) (is : given (indicators_in v) v ≡ true) where
+  same_first : first_bad (allows available (half_of (firsts v))) 16 ≡ first_bad (allows available (indicators_in v)) 16
+  unfolding allows
+  same_first =
+      let fit = all_fit v is in
+      first_same _ _ 16
+      (λ s h. ap (λ (b : Bool). offers available s || b) (fit_zero _ (fit s h) ∙ ap (λ (z : ℤ). eq_z z (pos 0)) (sym (indicator_is v (all_alike v is) fit s h))))
 
-module _ (base : Verdict) (plain : base.number ≡ 0 → base ≡ done) (available : ℕ) (x new old : List ℤ) where
-  ended_refused : (base.number ≡ 0 → ⊥) → Ended base available x new old base old
-  ended_refused h =
-      let is = or_else_refused base (set_verdict available x) h in
-      record { answered = sym is; left = sym (leaves_refused _ new old (rw is h)) }
-
-  module _ (h : base.number ≡ 0) (s : ℕ) (e : s ≡ first_bad (allows available x) 16) where
-    ended_stray : s < 16 → Ended base available x new old (refused signature_refused s) old
-    unfolding set_verdict
-    ended_stray l =
-        let is : or_else base (set_verdict available x) ≡ refused signature_refused s =
-        or_else_next base _ h ∙ rw e (each_stops 26 (allows available x) 16 (rw e at l))
-        in
-        record { answered = sym is; left = sym (leaves_refused _ new old (rw is (λ n. let z : ⊥ = omega arith in z))) }
-
-    ended_done : 16 ≤ s → {after : List ℤ} → after ≡ new → Ended base available x new old base after
-    ended_done l out =
-        let is = under base plain x available (plain h) (none_first _ 16 (rw e at l)) in
-        record { answered = plain h ∙ sym is; left = out ∙ sym (leaves_done _ new old (number_0 is)) }
-
-module _ (available : ℕ) (x v : List ℤ) where
-  map_ended : {answer : Verdict} {after : List ℤ} → Ended (map_verdict x (length v)) available x (values_of x) v answer after → MapAvailable available x v answer after
-  unfolding map_available_verdict
-  map_ended e = record { verdict_is = e.answered; values_is = e.left }
-
-  pub map_refused : ((map_verdict x (length v)).number ≡ 0 → ⊥) → MapAvailable available x v (map_verdict x (length v)) v
-  map_refused h = map_ended (ended_refused _ (map_plain x (length v)) available x (values_of x) v h)
-
-  module _ (h : (map_verdict x (length v)).number ≡ 0) (s : ℕ) (e : s ≡ first_bad (allows available x) 16) where
-    pub map_stray : s < 16 → MapAvailable available x v (refused signature_refused s) v
-    map_stray l = map_ended (ended_stray _ (map_plain x (length v)) available x (values_of x) v h s e l)
-
-    pub map_done : 16 ≤ s → {after : List ℤ} → after ≡ values_of x → MapAvailable available x v (map_verdict x (length v)) after
-    map_done l out = map_ended (ended_done _ (map_plain x (length v)) available x (values_of x) v h s e l out)
-
--- what `none_stray` told: there is a signature that may not have its indicator, or there is none
-module _ (available : ℕ) (x : List ℤ) {good : Bool} (e : good ≡ all 16 (allows available x)) where
-  pub some_stray : good ≡ false → first_bad (allows available x) 16 < 16
-  some_stray h = leb-false _ _ (sym e ∙ h)
-
-  pub none_stray : good ≡ true → 16 ≤ first_bad (allows available x) 16
-  none_stray h = leb-true _ _ (sym e ∙ h)
-
-module _ (available : ℕ) (v x : List ℤ) where
-  read_ended : {answer : Verdict} {after : List ℤ} → Ended (read_verdict v (length x)) available (indicators_in v) (indicators_in v) x answer after
-      → ReadAvailable available v x answer after
-  unfolding read_available_verdict
-  read_ended e = record { verdict_is = e.answered; indicators_is = e.left }
-
-  -- the base refuses
-  pub read_refused : {answer : Verdict} → Read v x answer x → (answer.number ≡ 0 → ⊥) → ReadAvailable available v x answer x
-  read_refused p h =
-      rw p.verdict_is (read_ended (ended_refused _ (read_plain v (length x)) available (indicators_in v) (indicators_in v) x (rw p.verdict_is at h)))
-
-  -- the base does not: the set is asked of the sums, each of which is 0 where its indicator is
-  module _ (sums : List ℤ) (head : (read_head (length v) (length x)).number ≡ 0) (like : Every (alike v) 16) (is : sums ≡ half_of (firsts v))
-      (fit : Every (fits_at (half_of (firsts v))) 16) where
-    base : Read v x (read_head (length v) (length x)) (indicators_in v)
-    base = base_done v x head (units_give v like fit) (indicators_in v) refl
-
-    zero : (read_verdict v (length x)).number ≡ 0
-    zero = rw base.verdict_is at head
-
-    asked : first_bad (allows available sums) 16 ≡ first_bad (allows available (indicators_in v)) 16
-    unfolding allows
-    asked =
-        first_same _ _ 16
-        (λ s h. ap (λ (b : Bool). offers available s || b) (rw is (fit_zero _ (fit s h)) ∙ ap (λ (z : ℤ). eq_z z (pos 0)) (sym (indicator_is v like fit s h))))
-
-    pub read_stray : (s : ℕ) → s ≡ first_bad (allows available sums) 16 → s < 16 → ReadAvailable available v x (refused signature_refused s) x
-    read_stray s e l =
-        read_ended (ended_stray _ (read_plain v (length x)) available (indicators_in v) (indicators_in v) x zero s (e ∙ asked) l)
-
-    pub read_done : 16 ≤ first_bad (allows available sums) 16 → {after : List ℤ} → after ≡ units_of sums
-        → ReadAvailable available v x (read_head (length v) (length x)) after
-    read_done l out =
-        rw base.verdict_is
-        (read_ended (ended_done _ (read_plain v (length x)) available (indicators_in v) (indicators_in v) x zero _ asked l (out ∙ ap units_of is ∙ units_are v like fit)))
+  pub asked : set_verdict available (half_of (firsts v)) ≡ set_verdict available (indicators_in v)
+  unfolding set_verdict each
+  asked = rw same_first

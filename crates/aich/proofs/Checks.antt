@@ -5,20 +5,25 @@ use mathlib.Core.Bool.{Bool, true, false}
 use mathlib.Core.List.{List}
 use Prim.Native.Nat.{ℕ}
 use native.Mathlib.Omega.{arith}
-use borrow.Author.Tests.{eqb-true, eq-eqb}
+use borrow.Author.Tests.{eqb-true}
 use lib.ListN.{length, get_or}
 use lib.IntN.{ℤ, pos, negsuc}
-use Rattle.run.specs.declared.Verdict.{Verdict}
+use Rattle.std.specs.Prelude.{Result, Ok, Err}
+use Rattle.std.specs.Result.{IsErrAnd}
+use Rattle.run.specs.declared.refusal.Refusal.{Refusal}
+use Rattle.run.specs.Answers.{number_of}
 use Rattle.run.specs.First.{all, Every}
 use Rattle.run.specs.Ranges.{in_range}
 use Rattle.run.specs.Refusals.{values_refused}
 use Rattle.run.specs.Verdicts.{refused, done, unless}
-use Rattle.run.proofs.Chain.{or_else_done, unless_done, each_done, or_else_next, or_else_refused, or_else_pass, unless_pass, each_pass, leaves_done, leaves_refused}
+use Rattle.run.proofs.Chain.{or_else_done, unless_done, each_done, unless_pass}
+use Rattle.run.proofs.Chain.{number_0}
+use Rattle.run.proofs.Answers.{refuses, goes_on, stops as ends}
 use Rattle.run.proofs.Ranges.{range_parts}
 use Rattle.whole.proofs.Bound.{b_range}
 use Rattle.aich.specs.Rule.{indicators_in}
-use Rattle.aich.specs.Outcome.{map_verdict, given, read_head, read_verdict, Read}
-use Rattle.aich.specs.Method.{Sixteen, half_of, firsts, alike, fits_at}
+use Rattle.aich.specs.Outcome.{map_verdict, given, read_head, read_verdict}
+use Rattle.aich.specs.Method.{Sixteen, half_of, firsts, alike, fits_at, Summed, with_sums}
 use Rattle.run.proofs.Passing.{all_every, every_all}
 use Rattle.aich.proofs.Reading.{all_alike, all_fit}
 
@@ -44,16 +49,6 @@ taken indicators values_length h =
       indicators_ok = units indicators e (rw e at (each_done 0 11 (in_range (negsuc 0) (pos 1) indicators) (length indicators) (omega arith) c2.rest));
       values_ok = eqb-true _ _ (unless_done _ 3 1 (omega arith) c2.first);
     }
-
--- indicators that are taken are answered as done
-pub taken_done : (indicators : List ℤ) (values_length : ℕ) → (map_verdict indicators values_length).number ≡ 0 → done ≡ map_verdict indicators values_length
-unfolding map_verdict
-taken_done indicators values_length h =
-    let c1 = or_else_done _ _ h in
-    let c2 = or_else_done _ _ c1.rest in
-    sym (or_else_pass (unless_pass 3 0 (unless_done _ 3 0 (omega arith) c1.first))
-    (or_else_pass (unless_pass 3 1 (unless_done _ 3 1 (omega arith) c2.first))
-    (each_pass 0 11 _ _ (each_done 0 11 (in_range (negsuc 0) (pos 1) indicators) (length indicators) (omega arith) c2.rest))))
 
 pub record Headed (values_length indicators_length : ℕ) : Type 0 where
   pub values_ok : values_length ≡ 32
@@ -100,28 +95,29 @@ unfit_stops v sums e = stops v (fits_at sums) (λ t. rw e (all_fit v t))
 pub sums_fit : (v sums : List ℤ) {good : Bool} → sums ≡ half_of (firsts v) → good ≡ all 16 (fits_at sums) → good ≡ true → Every (fits_at (half_of (firsts v))) 16
 sums_fit v sums e f h = rw e at (all_every 16 (fits_at sums) (sym f ∙ h))
 
-pub read_head_refused : (v x : List ℤ) → ((read_head (length v) (length x)).number ≡ 0 → ⊥) → Read v x (read_head (length v) (length x)) x
-unfolding read_verdict
-read_head_refused v x h =
-    let is : read_verdict v (length x) ≡ read_head (length v) (length x) = or_else_refused _ _ h in
-    record { verdict_is = sym is; indicators_is = sym (leaves_refused _ _ _ (rw is h)) }
+-- a check that refused failed
+refused_fails : (x : Refusal) (ok : Bool) (number place : ℕ) → refused (number_of x.reason) x.place ≡ unless ok number place → ok ≡ false
+unfolding unless
+refused_fails x true number place e = absurd (refuses x x.place (number_0 e))
+refused_fails x false number place e = refl
 
-module _ (v x : List ℤ) (head : (read_head (length v) (length x)).number ≡ 0) where
-  pub read_refused : given (indicators_in v) v ≡ false → Read v x (refused values_refused 0) x
-  unfolding read_verdict unless
-  read_refused e =
-      let is : read_verdict v (length x) ≡ refused values_refused 0 = or_else_next _ _ head ∙ rw e in
-      record { verdict_is = sym is; indicators_is = sym (leaves_refused _ _ _ (rw is (λ n. let z : ⊥ = omega arith in z))) }
+module _ (v : List ℤ) (n : ℕ) where
+  -- a refusal that is handed on
+  pub summed_err : (r : Result (Unit {0}) Refusal) (sums : List ℤ) (x : Refusal) → IsErrAnd r (λ e. e ≡ x) → refused (number_of x.reason) x.place ≡ read_verdict v n → Summed v n (with_sums r sums)
+  summed_err (Ok u) sums x h e = absurd h
+  summed_err (Err y) sums x h e = record { verdict_is = ap (λ z. refused (number_of z.reason) z.place) h ∙ e; sums_are = tt }
 
-  pub read_done : given (indicators_in v) v ≡ true → (after : List ℤ) → after ≡ indicators_in v → Read v x (read_head (length v) (length x)) after
-  unfolding read_verdict read_head
-  read_done e after out =
-      let h = headed (length v) (length x) head in
-      let first : read_head (length v) (length x) ≡ done =
-      or_else_pass (unless_pass 3 0 (eq-eqb _ _ h.values_ok)) (unless_pass 3 1 (eq-eqb _ _ h.indicators_ok))
-      in
-      let is : read_verdict v (length x) ≡ done = or_else_pass first (unless_pass 10 0 e) in
-      record {
-        verdict_is = first ∙ sym is;
-        indicators_is = out ∙ sym (leaves_done (read_verdict v (length x)) (indicators_in v) x (ap (λ (w : Verdict). w.number) is));
-      }
+  pub head_refuses : (x : Refusal) → refused (number_of x.reason) x.place ≡ read_head (length v) n → refused (number_of x.reason) x.place ≡ read_verdict v n
+  unfolding read_verdict
+  head_refuses x e = ends {A = Unit {0}} (Err x) x _ refl e
+
+  module _ (head : done ≡ read_head (length v) n) where
+    -- a check of the values refuses where no indicators give them
+    pub values_refuse : (x : Refusal) {ok : Bool} → refused (number_of x.reason) x.place ≡ unless ok values_refused 0
+        → (ok ≡ false → given (indicators_in v) v ≡ false) → refused (number_of x.reason) x.place ≡ read_verdict v n
+    unfolding read_verdict
+    values_refuse x {ok} e fails = let f = refused_fails x ok 10 0 e in goes_on head (rw (fails f) (rw f at e))
+
+    pub values_given : given (indicators_in v) v ≡ true → done ≡ read_verdict v n
+    unfolding read_verdict
+    values_given e = goes_on head (sym (unless_pass 10 0 e))

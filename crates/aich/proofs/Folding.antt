@@ -17,7 +17,7 @@ use Rattle.run.specs.Table.{tab}
 use Rattle.run.proofs.Table.{tab_length, tab_at, tab_is, tab_same}
 use Rattle.whole.specs.Bound.{Bounded}
 use Rattle.whole.proofs.Bound.{b_sum, b_diff, b_weaken}
-use Rattle.whole.proofs.Bits.{Reads, r_in, fits_sum, r_sum, fits_diff, r_diff}
+use Rattle.whole.proofs.Bits.{Reads, r_in, r_sum, fits_diff, r_diff}
 use Rattle.whole.proofs.Ring.{solve, quoted, ring}
 use Rattle.whole.proofs.Sum.{sum_same}
 use Rattle.signature.specs.Rule.{sign}
@@ -246,38 +246,11 @@ module _ {w : Width} {a b c d : ℤ} (f : Four w a b c d) where
     read = r_in l (omega (arith, f.room))
 
   module _ (x y : ℤ) (l : Bounded f.bound x) (m : Bounded f.bound y) where
-    two_add : SFits w (to_z w (of_z w x) +ℤ to_z w (of_z w y))
-    two_add = fits_sum (read x l) (read y m) (omega (arith, f.room))
-
-    two_subtract : SFits w (to_z w (of_z w x) -ℤ to_z w (of_z w y))
-    two_subtract = fits_diff (read x l) (read y m) (omega (arith, f.room))
-
     added : Reads w (more (of_z w x) (of_z w y)) (x +ℤ y) (f.bound + f.bound)
     added = r_sum (read x l) (read y m) (omega (arith, f.room))
 
     subtracted : Reads w (less (of_z w x) (of_z w y)) (x -ℤ y) (f.bound + f.bound)
     subtracted = r_diff (read x l) (read y m) (omega (arith, f.room))
-
-  pub ab_add : SFits w (to_z w (of_z w a) +ℤ to_z w (of_z w b))
-  ab_add = two_add a b f.a_in f.b_in
-
-  pub ab_less : SFits w (to_z w (of_z w a) -ℤ to_z w (of_z w b))
-  ab_less = two_subtract a b f.a_in f.b_in
-
-  pub cd_add : SFits w (to_z w (of_z w c) +ℤ to_z w (of_z w d))
-  cd_add = two_add c d f.c_in f.d_in
-
-  pub cd_less : SFits w (to_z w (of_z w c) -ℤ to_z w (of_z w d))
-  cd_less = two_subtract c d f.c_in f.d_in
-
-  pub first_fits : SFits w (to_z w (more (of_z w a) (of_z w b)) +ℤ to_z w (more (of_z w c) (of_z w d)))
-  first_fits = fits_sum (added a b f.a_in f.b_in) (added c d f.c_in f.d_in) f.room
-
-  pub second_fits : SFits w (to_z w (less (of_z w a) (of_z w b)) +ℤ to_z w (less (of_z w c) (of_z w d)))
-  second_fits = fits_sum (subtracted a b f.a_in f.b_in) (subtracted c d f.c_in f.d_in) f.room
-
-  pub third_fits : SFits w (to_z w (more (of_z w a) (of_z w b)) -ℤ to_z w (more (of_z w c) (of_z w d)))
-  third_fits = fits_diff (added a b f.a_in f.b_in) (added c d f.c_in f.d_in) f.room
 
   pub fourth_fits : SFits w (to_z w (less (of_z w a) (of_z w b)) -ℤ to_z w (less (of_z w c) (of_z w d)))
   fourth_fits = fits_diff (subtracted a b f.a_in f.b_in) (subtracted c d f.c_in f.d_in) f.room

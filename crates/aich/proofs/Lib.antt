@@ -1,7 +1,9 @@
 pub mod Folding
+pub mod Folded
 pub mod Square
 pub mod Laws
 pub mod Reading
 pub mod Checks
 pub mod Exact
 pub mod Available
+pub mod Outside

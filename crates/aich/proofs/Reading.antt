@@ -128,3 +128,7 @@ module _ (v : List ℤ) (like : Every (alike v) 16) (fit : Every (fits_at (half_
   units_give =
       every_given (indicators_in v) v
       (λ j h. value_half (indicators_in v) j (2 * (j / 2)) (omega arith) ∙ value_is (j / 2) (omega arith) ∙ pair_at j h)
+
+-- indicators that give the values are the signs of the sums
+pub given_units : (v : List ℤ) → given (indicators_in v) v ≡ true → units_of (half_of (firsts v)) ≡ indicators_in v
+given_units v is = units_are v (all_alike v is) (all_fit v is)

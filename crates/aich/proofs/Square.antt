@@ -7,17 +7,17 @@ use Prim.Native.Nat.{ℕ, zero, suc, ◌+◌, ◌*◌, ◌/◌, ◌<◌}
 use native.Mathlib.Nat.{not-suc-le-zero}
 use native.Mathlib.Omega.{arith}
 use borrow.Author.Tests.{ltb-true, ltb-false}
-use lib.Dec.{ltb, lit<}
+use lib.Dec.{ltb, lit<, lit≤}
 use lib.ListN.{length, set, length-set}
 use lib.Seq.{get_or-set_same, get_or-set_other}
 use lib.IntN.{ℤ, pos, ◌+ℤ◌, ◌-ℤ◌}
-use mir.Syntax.{w32}
 use Rattle.run.proofs.Front.{Front, front_length, front_store}
 use Rattle.whole.specs.Bound.{Bounded}
 use Rattle.aich.specs.Rule.{values_of}
 use Rattle.aich.specs.Method.{Sixteen, folded, Turned, half_of}
 use Rattle.aich.proofs.Laws.{entry, value_from_half}
-use Rattle.aich.proofs.Folding.{folded_small, four_folds, Four, first_of_four, second_of_four, third_of_four, fourth_of_four}
+use Rattle.aich.proofs.Folded.{Small}
+use Rattle.aich.proofs.Folding.{folded_small, four_folds, sixteen_weaken, first_of_four, second_of_four, third_of_four, fourth_of_four}
 
 -- ---- a column is stored
 
@@ -104,16 +104,10 @@ module _ (x y : List ℤ) (k : ℕ) (v₀ v₁ v₂ v₃ : ℤ) (h : k < 4) (f :
           rw is (this y k v₀ v₁ v₂ v₃ f.long h (folded (folded x)) e₀ e₁ e₂ e₃ t m)
 
 -- the four numbers of a column
-pub column_four : (x : List ℤ) (k : ℕ) → Sixteen 16 x → k < 4 → Four w32 (entry x k) (entry x (k + 4)) (entry x (k + 8)) (entry x (k + 12))
-column_four x k p h =
-    record {
-      bound = 16;
-      a_in = p.small k (omega arith);
-      b_in = p.small (k + 4) (omega arith);
-      c_in = p.small (k + 8) (omega arith);
-      d_in = p.small (k + 12) (omega arith);
-      room = lit< tt;
-    }
+pub column_small : (x : List ℤ) (k : ℕ) → Sixteen 16 x → k < 4 → Small (entry x k) (entry x (k + 4)) (entry x (k + 8)) (entry x (k + 12))
+column_small x k p h =
+    let q = sixteen_weaken (lit≤ tt) p in
+    (q.small k (omega arith), q.small (k + 4) (omega arith), q.small (k + 8) (omega arith), q.small (k + 12) (omega arith))
 
 -- ---- a row, which is a column of what two foldings give
 
@@ -139,16 +133,8 @@ module _ (x y : List ℤ) (p : Sixteen 16 x) (f : Turned 4 x y) (k : ℕ) (h : k
   row₃ : entry y (4 * k + 3) ≡ entry z (k + 12)
   row₃ = let b : 4 * 3 + k ≡ k + 12 = omega arith in rw b at (in_row 3 (lit< tt))
 
-  pub row_four : Four w32 (entry y (4 * k)) (entry y (4 * k + 1)) (entry y (4 * k + 2)) (entry y (4 * k + 3))
-  row_four =
-      record {
-        bound = 64;
-        a_in = rw row₀ (small k (omega arith));
-        b_in = rw row₁ (small (k + 4) (omega arith));
-        c_in = rw row₂ (small (k + 8) (omega arith));
-        d_in = rw row₃ (small (k + 12) (omega arith));
-        room = lit< tt;
-      }
+  pub row_small : Small (entry y (4 * k)) (entry y (4 * k + 1)) (entry y (4 * k + 2)) (entry y (4 * k + 3))
+  row_small = (rw row₀ (small k (omega arith)), rw row₁ (small (k + 4) (omega arith)), rw row₂ (small (k + 8) (omega arith)), rw row₃ (small (k + 12) (omega arith)))
 
   -- sum i of all signatures is the value of places 2i and 2i + 1
   value : (i j : ℕ) → j / 2 ≡ i → j < 32 → entry (folded (folded z)) i ≡ entry (values_of x) j
@@ -202,11 +188,6 @@ module _ {t d₀ d : List ℤ} (k : ℕ) (v₀ v₁ v₂ v₃ : ℤ) (long : len
     where
       kept : {d : List ℤ} {i : ℕ} {v : ℤ} → Front t d₀ d i → i < 16 → v ≡ entry t i → Front t d₀ (set d i v) (i + 1)
       kept g l e = front_store (pos 0) g (omega (arith, front_length g, long)) e
-
--- four numbers that are those of a column
-pub same_four : (x : List ℤ) (k : ℕ) {a b c d : ℤ} → Sixteen 16 x → k < 4
-    → a ≡ entry x k → b ≡ entry x (k + 4) → c ≡ entry x (k + 8) → d ≡ entry x (k + 12) → Four w32 a b c d
-same_four x k p h ea eb ec ed = rw (ea, eb, ec, ed) (column_four x k p h)
 
 -- eight values are stored: the front is eight entries longer
 module _ {t d₀ d : List ℤ} (k : ℕ) (v₀ v₁ v₂ v₃ : ℤ) (long : length d₀ ≡ 32) (h : k < 4) (f₀ : Front t d₀ d (8 * k)) where

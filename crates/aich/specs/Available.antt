@@ -2,7 +2,7 @@
 -- in small letters.
 -- Assumes nothing.
 use Rattle.std.specs.Prelude.{ℕ, ◌<◌, ◌≡◌, true, false, List, ◌↔◌, get_or, ℤ, pos}
-use Rattle.run.specs.declared.Verdict.{Verdict}
+use Rattle.run.specs.Verdict.{Verdict}
 use Rattle.run.specs.Refusals.{signature_refused}
 use Rattle.run.specs.Verdicts.{refused, done}
 use Rattle.aich.specs.Rule.{values_of, indicators_in, offers}

@@ -2,7 +2,7 @@
 -- small letters.
 -- Assumes nothing.
 use Rattle.std.specs.Prelude.{ℕ, ◌≡◌, List, ◌↔◌, length, ℤ, pos, negsuc}
-use Rattle.run.specs.declared.Verdict.{Verdict}
+use Rattle.run.specs.Verdict.{Verdict}
 use Rattle.run.specs.First.{Every}
 use Rattle.run.specs.Ranges.{in_range}
 use Rattle.run.specs.Verdicts.{done, Narrow}

@@ -1,14 +1,17 @@
 -- How the code finds sums over signatures: what its private functions promise. Nothing here is part of a public promise.
 -- Values come in equal pairs, b(s, 2k) = b(s, 2k + 1), so sixteen sums are found and not 32; and those are found by four foldings of the run.
 -- Assumes nothing.
-use Rattle.std.specs.Prelude.{ℕ, ◌+◌, ◌*◌, ◌/◌, ◌%◌, ◌<◌, ◌≡◌, Bool, cond, ◌&&◌, List, eqb, length, get_or, ℤ, pos, negsuc, ◌+ℤ◌, ◌-ℤ◌, ◌*ℤ◌}
+use Rattle.std.specs.Prelude.{[], ◌∷◌, Result, Ok, Err, ℕ, ◌+◌, ◌*◌, ◌/◌, ◌%◌, ◌<◌, ◌≡◌, Bool, cond, ◌&&◌, List, eqb, length, get_or, ℤ, pos, negsuc, ◌+ℤ◌, ◌-ℤ◌, ◌*ℤ◌}
 use Rattle.std.specs.Int.Signed.{lt_z}
+use Rattle.run.specs.declared.refusal.Refusal.{Refusal}
+use Rattle.run.specs.Answers.{verdict_of}
 use Rattle.run.specs.First.{Every}
 use Rattle.run.specs.Ranges.{between}
 use Rattle.run.specs.Table.{tab}
 use Rattle.whole.specs.Equal.{eq_z}
 use Rattle.whole.specs.Bound.{Bounded}
 use Rattle.aich.specs.Rule.{value_at}
+use Rattle.aich.specs.Outcome.{read_verdict}
 
 -- sixteen numbers, each in -B to B
 pub record Sixteen (B : ℕ) (x : List ℤ) : Type 0 where
@@ -21,6 +24,10 @@ fold_at x k = cond (eqb (k % 2) 0) (x (k / 2) +ℤ x (k / 2 + 8)) (x (k / 2) -�
 
 unfoldable pub folded : List ℤ → List ℤ
 folded x = tab 16 (fold_at (λ (k : ℕ). get_or x k (pos 0)))
+
+-- two foldings of four numbers
+unfoldable pub fold_four : ℤ → ℤ → ℤ → ℤ → List ℤ
+fold_four a b c d = (a +ℤ b +ℤ (c +ℤ d)) ∷ (a -ℤ b +ℤ (c -ℤ d)) ∷ (a +ℤ b -ℤ (c +ℤ d)) ∷ (a -ℤ b -ℤ (c -ℤ d)) ∷ []
 
 -- the first m columns of y, a square of four by four, are the rows of what two foldings of x give
 pub record Turned (m : ℕ) (x y : List ℤ) : Type 0 where
@@ -47,6 +54,21 @@ alike values k = is_pair (get_or values (2 * k) (pos 0)) (get_or values (2 * k +
 pub record Paired (values : List ℤ) : Type 0 where
   pub long : length values ≡ 32
   pub like : Every (alike values) 16
+
+-- the sums over the pairs, where a call hands them out
+abbrev pub SumsOf : List ℤ → Result (List ℤ) Refusal → Type 0
+SumsOf values (Ok sums) = sums ≡ half_of (firsts values)
+SumsOf values (Err _) = Unit {0}
+
+-- what the checks answer, with the sums that they left
+abbrev pub with_sums : Result (Unit {0}) Refusal → List ℤ → Result (List ℤ) Refusal
+with_sums (Ok _) sums = Ok sums
+with_sums (Err refusal) _ = Err refusal
+
+-- what the checks of `read` answer: its verdict, and where it is done the sums
+pub record Summed (values : List ℤ) (indicators_length : ℕ) (answer : Result (List ℤ) Refusal) : Type 0 where
+  pub verdict_is : verdict_of answer ≡ read_verdict values indicators_length
+  pub sums_are : SumsOf values answer
 
 -- the sign of a sum
 unfoldable pub sign_of : ℤ → ℤ

@@ -1,7 +1,7 @@
 -- docs/RULES.md, 'AICH': what each call answers and leaves in each lent run, for all inputs.
 -- Assumes nothing.
 use Rattle.std.specs.Prelude.{ℕ, ◌≡◌, Bool, List, length, get_or, eqb, ℤ, pos, negsuc}
-use Rattle.run.specs.declared.Verdict.{Verdict}
+use Rattle.run.specs.Verdict.{Verdict}
 use Rattle.run.specs.First.{all}
 use Rattle.run.specs.Ranges.{in_range}
 use Rattle.run.specs.Refusals.{length_refused, values_refused, range_refused, signature_refused}

@@ -1,109 +1,112 @@
 // The acquisition indicator channel: docs/RULES.md, 'AICH'; TS 25.211, 5.3.3.7.
 #![tactic(auto)]
 
-ghost use Rattle.std.specs.Prelude.{◌≡◌, ◌<◌, length, get_or, pos};
+ghost use Rattle.std.specs.Prelude.{◌≡◌, ◌<◌, length, get_or, pos, negsuc};
+ghost use Rattle.run.specs.Answers.{verdict_of};
 ghost use Rattle.run.specs.First.{all};
+ghost use Rattle.run.specs.Ranges.{between};
+ghost use Rattle.whole.specs.Bound.{Bounded};
 ghost use Rattle.aich.specs.Rule.{values_of};
 ghost use Rattle.aich.specs.Outcome.{map_verdict, Map, read_head, Read, MapAvailable, ReadAvailable};
-ghost use Rattle.aich.specs.Method.{Sixteen, Turned, Paired, half_of, firsts, is_pair, alike, sign_of, fits16, fits_at, units_of};
+ghost use Rattle.aich.specs.Method.{Sixteen, Summed, with_sums, fold_four, Turned, Paired, half_of, firsts, is_pair, alike, sign_of, fits16, fits_at, units_of};
 
-use run::{Verdict, or_else, refusal, unless};
+use run::{Reason, Refusal, require};
 
 mod set;
 
-fn map_verdict(indicators: &[i32], values_length: usize) -> Verdict
-    ensures { result ≡ map_verdict indicators.now values_length }
+// The checks of `map` in their order.
+fn check_map(indicators: &[i32], values_length: usize) -> Result<(), Refusal>
+    ensures { verdict_of result ≡ map_verdict indicators.now values_length }
 {
-    let n = indicators.len();
-    let i = range::first_outside(indicators, -1, 1);
-    let numbers = unless(n <= i, refusal::RANGE, i);
-    let second = or_else(unless(values_length == 32, refusal::LENGTH, 1), numbers);
-    or_else(unless(n == 16, refusal::LENGTH, 0), second)
+    require(indicators.len() == 16, Reason::Length, 0)?;
+    require(values_length == 32, Reason::Length, 1)?;
+    match range::outside(indicators, -1, 1) {
+        None => Ok(()),
+        Some(place) => require(false, Reason::Range, place),
+    }
+}
+
+// Two foldings of four numbers.
+fn fold_four(a: i32, b: i32, c: i32, d: i32) -> [i32; 4]
+    requires { Bounded 64 a × Bounded 64 b × Bounded 64 c × Bounded 64 d }
+    ensures { result ≡ fold_four a b c d }
+{
+    [
+        a + b + (c + d),
+        a - b + (c - d),
+        a + b - (c + d),
+        a - b - (c - d),
+    ]
 }
 
 // Two foldings at a time, with their places turned: entry k + 4t is entry 4k + t of what two foldings give. `n` is 4: the compiler does not know it, so that it keeps the loop
 // and goes four numbers at a time.
-fn columns(x: &[i32], n: usize, y: &mut [i32])
-    requires { Sixteen 16 x.now × (n ≡ 4) × (length y.old ≡ 16) }
-    ensures { Turned 4 x.now y.new }
+fn columns(x: &[i32], n: usize) -> [i32; 16]
+    requires { Sixteen 16 x.now × (n ≡ 4) }
+    ensures { Turned 4 x.now result }
 {
-    let mut k = 0;
-    while k < n {
-        let a = x[k];
-        let b = x[k + 4];
-        let c = x[k + 8];
-        let d = x[k + 12];
-        y[k] = a + b + (c + d);
-        y[k + 4] = a - b + (c - d);
-        y[k + 8] = a + b - (c + d);
-        y[k + 12] = a - b - (c - d);
-        k += 1;
+    let mut y = [0i32; 16];
+    for k in 0..n {
+        let folded = fold_four(x[k], x[k + 4], x[k + 8], x[k + 12]);
+        y[k] = folded[0];
+        y[k + 4] = folded[1];
+        y[k + 8] = folded[2];
+        y[k + 12] = folded[3];
     }
+    y
 }
 
-// Two foldings more are the sums, and each sum is the value of a pair.
+// Two foldings more are the sums over the signatures, and each sum is the value of a pair. The eight values of a row are stored together: by way of the sums the compiler stores them twice
+// over, which is slower by a fifth. Inlined, it would know the lengths from the caller's checks, and write the loops out.
+#[inline(never)]
 fn write_values(indicators: &[i32], values: &mut [i32])
     requires { Sixteen 16 indicators.now × (length values.old ≡ 32) }
     ensures { values.new ≡ values_of indicators.now }
 {
     let n = indicators.len() / 4;
-    let mut y = [0i32; 16];
-    columns(indicators, n, &mut y);
-    let mut k = 0;
-    while k < n {
-        let a = y[4 * k];
-        let b = y[4 * k + 1];
-        let c = y[4 * k + 2];
-        let d = y[4 * k + 3];
-        let first = a + b + (c + d);
-        let second = a - b + (c - d);
-        let third = a + b - (c + d);
-        let fourth = a - b - (c - d);
-        values[8 * k] = first;
-        values[8 * k + 1] = first;
-        values[8 * k + 2] = second;
-        values[8 * k + 3] = second;
-        values[8 * k + 4] = third;
-        values[8 * k + 5] = third;
-        values[8 * k + 6] = fourth;
-        values[8 * k + 7] = fourth;
-        k += 1;
+    let y = columns(indicators, n);
+    for k in 0..n {
+        let folded = fold_four(y[4 * k], y[4 * k + 1], y[4 * k + 2], y[4 * k + 3]);
+        values[8 * k] = folded[0];
+        values[8 * k + 1] = folded[0];
+        values[8 * k + 2] = folded[1];
+        values[8 * k + 3] = folded[1];
+        values[8 * k + 4] = folded[2];
+        values[8 * k + 5] = folded[2];
+        values[8 * k + 6] = folded[3];
+        values[8 * k + 7] = folded[3];
     }
 }
 
-// The values of the indicators, or the refusal and the values as they were. Done is written out, so that it need not wait for a place.
-pub fn map(indicators: &[i32], values: &mut [i32]) -> Verdict
-    ensures { Map indicators.now values.old result values.new }
+// The values of the indicators, or the refusal and the values as they were.
+pub fn map(indicators: &[i32], values: &mut [i32]) -> Result<(), Refusal>
+    ensures { Map indicators.now values.old (verdict_of result) values.new }
 {
-    let verdict = map_verdict(indicators, values.len());
-    if verdict.number != 0 {
-        return verdict;
-    }
+    check_map(indicators, values.len())?;
     write_values(indicators, values);
-    Verdict {
-        number: 0,
-        place: 0,
-    }
+    Ok(())
 }
 
-fn read_head(values_length: usize, indicators_length: usize) -> Verdict
-    ensures { result ≡ read_head values_length indicators_length }
+// The first checks of `read`.
+fn check_head(values_length: usize, indicators_length: usize) -> Result<(), Refusal>
+    ensures { verdict_of result ≡ read_head values_length indicators_length }
 {
-    let second = unless(indicators_length == 16, refusal::LENGTH, 1);
-    or_else(unless(values_length == 32, refusal::LENGTH, 0), second)
+    require(values_length == 32, Reason::Length, 0)?;
+    require(indicators_length == 16, Reason::Length, 1)
 }
 
-// Two equal values that sixteen indicators can reach.
+// A value that sixteen indicators can reach.
+fn small(a: i32) -> bool
+    ensures { result ≡ between (negsuc 15) (pos 16) a }
+{
+    -16 <= a && a <= 16
+}
+
+// Two equal ones.
 fn is_pair(a: i32, b: i32) -> bool
     ensures { result ≡ is_pair a b }
 {
-    if a != b {
-        return false;
-    }
-    if a < -16 {
-        return false;
-    }
-    a <= 16
+    a == b && small(a)
 }
 
 // Whether the values come in such pairs: correlation alone would let others pass. A loop that takes no early way out can go many pairs at a time.
@@ -112,12 +115,10 @@ fn all_alike(values: &[i32]) -> bool
     ensures { result ≡ all 16 (alike values.now) }
 {
     let mut good = true;
-    let mut k = 0;
-    while k < 16 {
+    for k in 0..16 {
         if !is_pair(values[2 * k], values[2 * k + 1]) {
             good = false;
         }
-        k += 1;
     }
     good
 }
@@ -131,44 +132,33 @@ fn value_of(values: &[i32], i: usize) -> i32
     if a == values[2 * i + 1] { a } else { 0 }
 }
 
-// `columns` of one value of each pair.
-fn pair_columns(values: &[i32], n: usize, y: &mut [i32])
-    requires { Paired values.now × (n ≡ 4) × (length y.old ≡ 16) }
-    ensures { Turned 4 (firsts values.now) y.new }
+// One value of each pair.
+fn firsts(values: &[i32]) -> [i32; 16]
+    requires { Paired values.now }
+    ensures { result ≡ firsts values.now }
 {
-    let mut k = 0;
-    while k < n {
-        let a = value_of(values, k);
-        let b = value_of(values, k + 4);
-        let c = value_of(values, k + 8);
-        let d = value_of(values, k + 12);
-        y[k] = a + b + (c + d);
-        y[k + 4] = a - b + (c - d);
-        y[k + 8] = a + b - (c + d);
-        y[k + 12] = a - b - (c - d);
-        k += 1;
+    let mut firsts = [0i32; 16];
+    for k in 0..16 {
+        firsts[k] = value_of(values, k);
     }
+    firsts
 }
 
-// The sum of each signature over the pairs: two foldings, and two more.
+// The sum of each signature over the pairs, by two foldings and two more. The sums are lent: an answer with sixteen numbers in it would be copied.
+#[inline(never)]
 fn find_sums(values: &[i32], sums: &mut [i32])
     requires { Paired values.now × (length sums.old ≡ 16) }
     ensures { sums.new ≡ half_of (firsts values.now) }
 {
     let n = values.len() / 8;
-    let mut y = [0i32; 16];
-    pair_columns(values, n, &mut y);
-    let mut k = 0;
-    while k < n {
-        let a = y[4 * k];
-        let b = y[4 * k + 1];
-        let c = y[4 * k + 2];
-        let d = y[4 * k + 3];
-        sums[4 * k] = a + b + (c + d);
-        sums[4 * k + 1] = a - b + (c - d);
-        sums[4 * k + 2] = a + b - (c + d);
-        sums[4 * k + 3] = a - b - (c - d);
-        k += 1;
+    let x = firsts(values);
+    let y = columns(&x, n);
+    for k in 0..n {
+        let folded = fold_four(y[4 * k], y[4 * k + 1], y[4 * k + 2], y[4 * k + 3]);
+        sums[4 * k] = folded[0];
+        sums[4 * k + 1] = folded[1];
+        sums[4 * k + 2] = folded[2];
+        sums[4 * k + 3] = folded[3];
     }
 }
 
@@ -198,12 +188,10 @@ fn all_fit(sums: &[i32]) -> bool
     ensures { result ≡ all 16 (fits_at sums.now) }
 {
     let mut good = true;
-    let mut s = 0;
-    while s < 16 {
+    for s in 0..16 {
         if !fits(sums[s]) {
             good = false;
         }
-        s += 1;
     }
     good
 }
@@ -213,81 +201,50 @@ fn write_indicators(sums: &[i32], indicators: &mut [i32])
     requires { (length sums.now ≡ 16) × (length indicators.old ≡ 16) }
     ensures { indicators.new ≡ units_of sums.now }
 {
-    let mut s = 0;
-    while s < 16 {
+    for s in 0..16 {
         indicators[s] = sign_of(sums[s]);
-        s += 1;
     }
+}
+
+// The checks of `read` in their order. The sums that are left in the lent run say which indicators the values give.
+fn check_read(values: &[i32], indicators_length: usize, sums: &mut [i32]) -> Result<(), Refusal>
+    requires { length sums.old ≡ 16 }
+    ensures { Summed values.now indicators_length (with_sums result sums.new) }
+{
+    check_head(values.len(), indicators_length)?;
+    require(all_alike(values), Reason::Values, 0)?;
+    find_sums(values, sums);
+    require(all_fit(sums), Reason::Values, 0)?;
+    Ok(())
 }
 
 // The indicators of the values, or the refusal and the indicators as they were.
-pub fn read(values: &[i32], indicators: &mut [i32]) -> Verdict
-    ensures { Read values.now indicators.old result indicators.new }
+pub fn read(values: &[i32], indicators: &mut [i32]) -> Result<(), Refusal>
+    ensures { Read values.now indicators.old (verdict_of result) indicators.new }
 {
-    let head = read_head(values.len(), indicators.len());
-    if head.number != 0 {
-        return head;
-    }
-    let none_gives = Verdict {
-        number: refusal::VALUES,
-        place: 0,
-    };
-    if !all_alike(values) {
-        return none_gives;
-    }
     let mut sums = [0i32; 16];
-    find_sums(values, &mut sums);
-    if !all_fit(&sums) {
-        return none_gives;
-    }
+    check_read(values, indicators.len(), &mut sums)?;
     write_indicators(&sums, indicators);
-    head
+    Ok(())
 }
 
 // `map` under a set of available signatures.
-pub fn map_available(available: u16, indicators: &[i32], values: &mut [i32]) -> Verdict
-    ensures { MapAvailable available indicators.now values.old result values.new }
+pub fn map_available(available: u16, indicators: &[i32], values: &mut [i32]) -> Result<(), Refusal>
+    ensures { MapAvailable available indicators.now values.old (verdict_of result) values.new }
 {
-    let verdict = map_verdict(indicators, values.len());
-    if verdict.number != 0 {
-        return verdict;
-    }
-    if !set::none_stray(available as u32, indicators) {
-        return Verdict {
-            number: refusal::SIGNATURE,
-            place: set::first_stray(available as u32, indicators),
-        };
-    }
+    check_map(indicators, values.len())?;
+    set::check(available as u32, indicators)?;
     write_values(indicators, values);
-    verdict
+    Ok(())
 }
 
 // `read` under a set of available signatures. A sum that fits is 0 where its indicator is, so the set is asked of the sums: nothing may be written before.
-pub fn read_available(available: u16, values: &[i32], indicators: &mut [i32]) -> Verdict
-    ensures { ReadAvailable available values.now indicators.old result indicators.new }
+pub fn read_available(available: u16, values: &[i32], indicators: &mut [i32]) -> Result<(), Refusal>
+    ensures { ReadAvailable available values.now indicators.old (verdict_of result) indicators.new }
 {
-    let head = read_head(values.len(), indicators.len());
-    if head.number != 0 {
-        return head;
-    }
-    let none_gives = Verdict {
-        number: refusal::VALUES,
-        place: 0,
-    };
-    if !all_alike(values) {
-        return none_gives;
-    }
     let mut sums = [0i32; 16];
-    find_sums(values, &mut sums);
-    if !all_fit(&sums) {
-        return none_gives;
-    }
-    if !set::none_stray(available as u32, &sums) {
-        return Verdict {
-            number: refusal::SIGNATURE,
-            place: set::first_stray(available as u32, &sums),
-        };
-    }
+    check_read(values, indicators.len(), &mut sums)?;
+    set::check(available as u32, &sums)?;
     write_indicators(&sums, indicators);
-    head
+    Ok(())
 }

@@ -8,7 +8,7 @@ use native.Mathlib.Omega.{arith}
 use borrow.Author.Tests.{eqb-true, le-leb, eq-eqb}
 use lib.Dec.{eqb, lit<}
 use lib.ListN.{length}
-use Rattle.run.specs.declared.Verdict.{Verdict}
+use Rattle.run.specs.Verdict.{Verdict}
 use Rattle.run.specs.First.{Every, at_most, agree}
 use Rattle.run.specs.Verdicts.{done, or_else, unless}
 use Rattle.run.proofs.Chain.{four_done, or_else_done, each_done, or_else_next, or_else_pass, unless_pass, each_pass, number_0, leaves_done, leaves_refused}

@@ -2,10 +2,10 @@
 -- in proofs/Exact.antt under its name in small letters.
 -- Assumes nothing.
 use Rattle.std.specs.Prelude.{ℕ, ◌+◌, ◌-◌, ◌*◌, ◌/◌, ◌%◌, ◌<◌, ◌≤◌, ◌≡◌, List, [], ◌∷◌, ◌++◌, map, ◌↔◌, length, get_or, take, drop}
-use Rattle.run.specs.declared.Verdict.{Verdict}
+use Rattle.run.specs.Verdict.{Verdict}
 use Rattle.run.specs.Pairs.{PairGiven}
 use Rattle.run.specs.Verdicts.{done, Narrow}
-use Rattle.dpch.specs.declared.Command.{Command}
+use Rattle.dpch.specs.Command.{Command}
 use Rattle.dpch.specs.Formats.{format_of}
 use Rattle.dpch.specs.Pilots.{pilot_of}
 use Rattle.dpch.specs.SecondPilots.{second_pilot}

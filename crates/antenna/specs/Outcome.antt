@@ -1,11 +1,11 @@
 -- docs/RULES.md, 'DPCH on the second antenna': what each call answers and leaves in each lent run, for all inputs.
 -- Assumes nothing.
 use Rattle.std.specs.Prelude.{ℕ, ◌≡◌, cond, List, [], ◌∷◌, length, eqb, leb}
-use Rattle.run.specs.declared.Verdict.{Verdict}
+use Rattle.run.specs.Verdict.{Verdict}
 use Rattle.run.specs.First.{at_most, agree}
 use Rattle.run.specs.Refusals.{format_refused, slot_refused, range_refused, digit_refused, frame_refused}
 use Rattle.run.specs.Verdicts.{or_else, unless, each, lengths, leaves}
-use Rattle.dpch.specs.declared.Command.{Command}
+use Rattle.dpch.specs.Command.{Command}
 use Rattle.dpch.specs.Formats.{format_of}
 use Rattle.dpch.specs.Heads.{slot_head}
 use Rattle.slot.specs.Rule.{data_size, data_in, tfci_in, command_in}

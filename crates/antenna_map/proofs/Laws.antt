@@ -8,7 +8,7 @@ use native.Mathlib.Omega.{arith}
 use borrow.Author.Tests.{lt-leb}
 use lib.Dec.{leb}
 use lib.ListN.{length}
-use Rattle.run.specs.declared.Verdict.{Verdict}
+use Rattle.run.specs.Verdict.{Verdict}
 use Rattle.run.specs.Verdicts.{refused, or_else, unless, lengths}
 use Rattle.run.proofs.Chain.{or_else_refused, leaves_refused}
 use Rattle.antenna.specs.Outcome.{map_head, map_verdict, Map}

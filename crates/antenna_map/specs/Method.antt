@@ -1,7 +1,7 @@
 -- What a private function of the mapper promises. Nothing here is part of a public promise.
 -- Assumes nothing.
 use Rattle.std.specs.Prelude.{ℕ, leb}
-use Rattle.run.specs.declared.Verdict.{Verdict}
+use Rattle.run.specs.Verdict.{Verdict}
 use Rattle.run.specs.Refusals.{format_refused, slot_refused, range_refused}
 use Rattle.run.specs.Verdicts.{refused, or_else, unless}
 

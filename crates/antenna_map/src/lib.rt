@@ -2,21 +2,22 @@
 #![tactic(auto)]
 
 ghost use Rattle.std.specs.Prelude.{◌≡◌, length};
+ghost use Rattle.run.specs.Answers.{verdict_of};
 ghost use Rattle.antenna.specs.Outcome.{Map};
 ghost use Rattle.antenna_map.specs.Method.{no_antenna};
 
-use run::{Verdict, or_else, refusal, unless};
+use run::{Reason, Refusal, require};
 
-// The verdict for an antenna that there is not: no length is asked.
-fn no_antenna(format: usize, slot: usize) -> Verdict
-    ensures { result ≡ no_antenna format slot }
+// The checks for an antenna that there is not: no length is asked.
+fn no_antenna(format: usize, slot: usize) -> Result<(), Refusal>
+    ensures { verdict_of result ≡ no_antenna format slot }
 {
-    let range = Verdict {
-        number: refusal::RANGE,
+    require(format <= 16, Reason::Format, 0)?;
+    require(slot <= 14, Reason::Slot, 0)?;
+    Err(Refusal {
+        reason: Reason::Range,
         place: 0,
-    };
-    let numbers = or_else(unless(slot <= 14, refusal::SLOT, 0), range);
-    or_else(unless(format <= 16, refusal::FORMAT, 0), numbers)
+    })
 }
 
 // Antenna 1's slot goes into `first`, a run as long as the output, and antenna 2's digits are made of it.
@@ -28,16 +29,13 @@ fn through(
     tfci: &[u8],
     first: &mut [u8],
     out: &mut [u8],
-) -> Verdict
+) -> Result<(), Refusal>
     requires { length first.old ≡ length out.old }
-    ensures { Map format slot 1 tpc «data».now tfci.now out.old result out.new }
+    ensures { Map format slot 1 tpc «data».now tfci.now out.old (verdict_of result) out.new }
 {
-    let verdict = slot_map::map(format, slot, tpc, data, tfci, first);
-    if verdict.number != 0 {
-        return verdict;
-    }
+    slot_map::map(format, slot, tpc, data, tfci, first)?;
     antenna::second_of(format, slot, first, out);
-    verdict
+    Ok(())
 }
 
 // Antenna 2. A short slot needs but a short run beside it; an output longer than any slot is refused by the checks of antenna 1.
@@ -48,8 +46,8 @@ fn map_second(
     data: &[u8],
     tfci: &[u8],
     out: &mut [u8],
-) -> Verdict
-    ensures { Map format slot 1 tpc «data».now tfci.now out.old result out.new }
+) -> Result<(), Refusal>
+    ensures { Map format slot 1 tpc «data».now tfci.now out.old (verdict_of result) out.new }
 {
     let n = out.len();
     if n <= 160 {
@@ -72,14 +70,12 @@ pub fn map(
     data: &[u8],
     tfci: &[u8],
     out: &mut [u8],
-) -> Verdict
-    ensures { Map format slot antenna tpc «data».now tfci.now out.old result out.new }
+) -> Result<(), Refusal>
+    ensures { Map format slot antenna tpc «data».now tfci.now out.old (verdict_of result) out.new }
 {
-    if antenna == 0 {
-        return slot_map::map(format, slot, tpc, data, tfci, out);
+    match antenna {
+        0 => slot_map::map(format, slot, tpc, data, tfci, out),
+        1 => map_second(format, slot, tpc, data, tfci, out),
+        _ => no_antenna(format, slot),
     }
-    if antenna == 1 {
-        return map_second(format, slot, tpc, data, tfci, out);
-    }
-    no_antenna(format, slot)
 }

@@ -1,50 +1,62 @@
 // One slot of the downlink DPCH on two antennas, read (rule, promises and theorems are those of the crate `antenna`): docs/RULES.md, 'DPCH on the second antenna'; TS 25.211, 5.3.2.1.
 #![tactic(auto)]
 
-ghost use Rattle.std.specs.Prelude.{◌≡◌, true, length};
-ghost use Rattle.run.specs.First.{first_bad, Every, agree};
+ghost use Rattle.std.specs.List.{position, zip};
+ghost use Rattle.std.specs.Prelude.{◌≡◌, ◌==◌, not, true, length};
+ghost use Rattle.run.specs.Answers.{verdict_of};
+ghost use Rattle.run.specs.First.{Every, agree};
 ghost use Rattle.run.specs.Verdicts.{done};
+ghost use Rattle.dpch.specs.Command.{command_of};
 ghost use Rattle.dpch.specs.Formats.{format_of};
 ghost use Rattle.antenna.specs.Rule.{second_of};
 ghost use Rattle.antenna.specs.Outcome.{read_head, read_body, read_verdict, Read};
 
-use dpch::Command;
-use run::{Verdict, lengths, or_else, refusal, unless};
+use run::{Reason, Refusal, refused_at};
 
-fn read_head(
+// The checks of numbers and lengths.
+fn check_head(
     format: usize,
     slot: usize,
     first_length: usize,
     second_length: usize,
     data_length: usize,
     tfci_length: usize,
-) -> Verdict
-    ensures { result ≡ read_head format slot first_length second_length data_length tfci_length }
+) -> Result<(), Refusal>
+    ensures { verdict_of result ≡ read_head format slot first_length second_length data_length tfci_length }
 {
     let s = slot::sizes_of(format);
-    let right = lengths(
-        first_length == s.slot,
-        second_length == s.slot,
-        data_length == s.data,
-        tfci_length == s.tfci,
-    );
-    let numbers = or_else(unless(slot <= 14, refusal::SLOT, 0), right);
-    or_else(unless(format <= 16, refusal::FORMAT, 0), numbers)
+    dpch::check_slot_head(
+        16,
+        format,
+        slot,
+        &[
+            first_length == s.slot,
+            second_length == s.slot,
+            data_length == s.data,
+            tfci_length == s.tfci,
+        ],
+    )
 }
 
 // What the first stream implies goes into `implied`, a run as long as the slot, and is compared.
-fn compare(format: usize, slot: usize, first: &[u8], second: &[u8], implied: &mut [u8]) -> usize
+fn compare(
+    format: usize,
+    slot: usize,
+    first: &[u8],
+    second: &[u8],
+    implied: &mut [u8],
+) -> Option<usize>
     requires { (length first.now ≡ (format_of format).slot) × (length second.now ≡ (format_of format).slot) × (length implied.old ≡ (format_of format).slot) }
-    ensures { result ≡ first_bad (agree (second_of format slot first.now) second.now) (format_of format).slot }
+    ensures { result ≡ position (λ pair. not (pair.0 == pair.1)) (zip (second_of format slot first.now) second.now) }
 {
     antenna::second_of(format, slot, first, implied);
-    scan_diff::first_diff(implied, second)
+    scan_diff::difference(implied, second)
 }
 
 // Where the second stream differs from what the first implies. A short slot needs but a short run.
-fn first_difference(format: usize, slot: usize, first: &[u8], second: &[u8]) -> usize
+fn first_difference(format: usize, slot: usize, first: &[u8], second: &[u8]) -> Option<usize>
     requires { (length first.now ≡ (format_of format).slot) × (length second.now ≡ (format_of format).slot) }
-    ensures { result ≡ first_bad (agree (second_of format slot first.now) second.now) (format_of format).slot }
+    ensures { result ≡ position (λ pair. not (pair.0 == pair.1)) (zip (second_of format slot first.now) second.now) }
 {
     let n = first.len();
     if n <= 160 {
@@ -56,18 +68,16 @@ fn first_difference(format: usize, slot: usize, first: &[u8], second: &[u8]) -> 
 }
 
 // The checks of the digits in their order. Antenna 2's places count from the slot length.
-fn check(format: usize, slot: usize, first: &[u8], second: &[u8]) -> Verdict
+fn check_digits(format: usize, slot: usize, first: &[u8], second: &[u8]) -> Result<(), Refusal>
     requires { (length first.now ≡ (format_of format).slot) × (length second.now ≡ (format_of format).slot) }
-    ensures { result ≡ read_body format slot first.now second.now }
+    ensures { verdict_of result ≡ read_body format slot first.now second.now }
 {
-    let n = first.len();
-    let m = first_difference(format, slot, first, second);
-    let last = unless(n <= m, refusal::FRAME, n + m);
-    let own = or_else(slot_check::part_verdict(format, slot, first, 0), last);
-    let j = scan::first_above(second, 2);
-    let above = or_else(unless(n <= j, refusal::DIGIT, n + j), own);
-    let i = scan::first_above(first, 2);
-    or_else(unless(n <= i, refusal::DIGIT, i), above)
+    let n = first.len() as u32;
+    refused_at(first, scan::above(first, 2), Reason::Digit, 0)?;
+    refused_at(second, scan::above(second, 2), Reason::Digit, n)?;
+    slot_check::check_part(format, slot, first, 0)?;
+    let differs = first_difference(format, slot, first, second);
+    refused_at(second, differs, Reason::Frame, n)
 }
 
 // Whether two runs of one length are the same. One length is worth a look whose length is a number.
@@ -77,7 +87,7 @@ fn is_same(s: &[u8], t: &[u8]) -> bool
 {
     match s.len() {
         80 => scan_diff::same_front(s, t, 80),
-        _ => s.len() <= scan_diff::first_diff(s, t),
+        _ => scan_diff::difference(s, t).is_none(),
     }
 }
 
@@ -88,10 +98,7 @@ fn agrees_in(format: usize, slot: usize, first: &[u8], second: &[u8], implied: &
     ensures { result ≡ true → read_body format slot first.now second.now ≡ done }
 {
     antenna::second_of(format, slot, first, implied);
-    if slot_fits::fits(format, slot, first) {
-        return is_same(implied, second);
-    }
-    false
+    slot_fits::fits(format, slot, first) && is_same(implied, second)
 }
 
 // .. with a run for what it implies.
@@ -108,31 +115,28 @@ fn agrees(format: usize, slot: usize, first: &[u8], second: &[u8]) -> bool
     agrees_in(format, slot, first, second, &mut long[0..n])
 }
 
-fn read_verdict(
+fn check(
     format: usize,
     slot: usize,
     first: &[u8],
     second: &[u8],
     data_length: usize,
     tfci_length: usize,
-) -> Verdict
-    ensures { result ≡ read_verdict format slot first.now second.now data_length tfci_length }
+) -> Result<(), Refusal>
+    ensures { verdict_of result ≡ read_verdict format slot first.now second.now data_length tfci_length }
 {
-    let head = read_head(
+    check_head(
         format,
         slot,
         first.len(),
         second.len(),
         data_length,
         tfci_length,
-    );
-    if head.number != 0 {
-        return head;
-    }
+    )?;
     if agrees(format, slot, first, second) {
-        return head;
+        return Ok(());
     }
-    check(format, slot, first, second)
+    check_digits(format, slot, first, second)
 }
 
 // The fields of both antennas' slots, or the refusal and the runs as they were.
@@ -143,19 +147,9 @@ pub fn read(
     second: &[u8],
     data: &mut [u8],
     tfci: &mut [u8],
-) -> Command
-    ensures { Read format slot first.now second.now «data».old tfci.old result «data».new tfci.new }
+) -> Result<usize, Refusal>
+    ensures { Read format slot first.now second.now «data».old tfci.old (command_of result) «data».new tfci.new }
 {
-    let checked = read_verdict(format, slot, first, second, data.len(), tfci.len());
-    if checked.number != 0 {
-        return Command {
-            verdict: checked,
-            tpc: 0,
-        };
-    }
-    let taken = slot_read::take(format, slot, first, data, tfci);
-    Command {
-        verdict: checked,
-        tpc: taken.tpc,
-    }
+    check(format, slot, first, second, data.len(), tfci.len())?;
+    slot_read::take(format, slot, first, data, tfci)
 }

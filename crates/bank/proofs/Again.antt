@@ -7,7 +7,7 @@ use Prim.Native.Nat.{ℕ, ◌+◌, ◌≤◌}
 use borrow.Author.Tests.{le-leb, eq-eqb}
 use lib.Dec.{eqb}
 use lib.ListN.{length}
-use Rattle.run.specs.declared.Verdict.{Verdict}
+use Rattle.run.specs.Verdict.{Verdict}
 use Rattle.run.specs.First.{Every, at_most}
 use Rattle.run.specs.Verdicts.{done}
 use Rattle.run.proofs.Chain.{or_else_pass, unless_pass, each_pass, leaves_done, number_0}

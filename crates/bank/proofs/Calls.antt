@@ -8,46 +8,19 @@ use native.Mathlib.Omega.{arith}
 use borrow.Author.Tests.{leb-true, eqb-true, eqb-false, eq-eqb, ne_eqb, ltb-true, ltb-false, lt-ltb, not-true}
 use lib.Dec.{eqb, leb, ltb, lit<}
 use lib.ListN.{length}
-use Rattle.run.specs.declared.Verdict.{Verdict}
+use Rattle.run.specs.Verdict.{Verdict}
 use Rattle.run.specs.First.{Every, all, at_most}
 use Rattle.run.specs.Verdicts.{done, or_else, unless, each}
 use Rattle.run.proofs.Chain.{or_else_done, unless_done, each_done, or_else_refused}
-use Rattle.bank.specs.declared.Found.{Found}
 use Rattle.bank.specs.Slots.{has, fetched, taken, is_number, is_length}
 use Rattle.bank.specs.Plain.{store_plain, drop_plain, fetch_plain}
 use Rattle.bank.specs.Layout.{slots_in, is_bank}
+use Rattle.bank.specs.Answers.{Found}
 use Rattle.bank.specs.Outcome.{store_verdict, drop_verdict, Find, fetch_verdict}
 use Rattle.bank.specs.Exact.{Holds}
 use Rattle.bank.proofs.Front.{room_low}
 use Rattle.bank.proofs.Reading.{bank_holds, holds_fits}
 use Rattle.bank.proofs.Split.{has_digits, Present, present, start_is, split_taken}
-
--- ---- a check of the bytes, and the rest of a chain, which is asked only where they are a bank
-unless_bank : (bytes : List ℕ) (v w : Verdict) → (is_bank bytes ≡ true → v ≡ w) → or_else (unless (is_bank bytes) 28 0) v ≡ or_else (unless (is_bank bytes) 28 0) w
-unfolding or_else unless
-unless_bank bytes v w same = side (is_bank bytes) refl
-  where
-    side : (b : Bool) → is_bank bytes ≡ b → cond (eqb (cond b done (record { number = 28; place = 0 })).number 0) v (cond b done (record { number = 28; place = 0 }))
-        ≡ cond (eqb (cond b done (record { number = 28; place = 0 })).number 0) w (cond b done (record { number = 28; place = 0 }))
-    side true e = same e
-    side false e = refl
-
--- the total that is told is 0 exactly where the bytes are no bank
-pub total_bank : (bytes : List ℕ) (number : ℕ) (found : Found) → Find bytes number found → ltb 0 found.total ≡ is_bank bytes
-unfolding taken
-total_bank bytes number found f = ap (ltb 0) f.total_is ∙ side (is_bank bytes)
-  where
-    side : (b : Bool) → ltb 0 (cond b (taken (slots_in bytes)) 0) ≡ b
-    side true = lt-ltb 0 (taken (slots_in bytes)) (omega arith)
-    side false = refl
-
--- .. and is within the buffer
-pub total_low : (bytes : List ℕ) (number : ℕ) (found : Found) → Find bytes number found → found.total ≤ 65536
-total_low bytes number found f = rw f.total_is (side (is_bank bytes) refl)
-  where
-    side : (b : Bool) → is_bank bytes ≡ b → cond b (taken (slots_in bytes)) 0 ≤ 65536
-    side true e = let h = bank_holds bytes e in omega (arith, holds_fits h, room_low (length bytes) h.room)
-    side false e = omega arith
 
 module _ (bytes : List ℕ) (number : ℕ) (found : Found) (f : Find bytes number found) (e : is_bank bytes ≡ true) where
   pub found_total : found.total ≡ taken (slots_in bytes)
@@ -55,9 +28,6 @@ module _ (bytes : List ℕ) (number : ℕ) (found : Found) (f : Find bytes numbe
 
   pub found_length : found.length ≡ length (fetched number (slots_in bytes))
   found_length = f.length_is ∙ rw e
-
-  pub found_has : has number (slots_in bytes) ≡ ltb 0 found.length
-  found_has = has_digits number (slots_in bytes) (bank_holds bytes e).list ∙ ap (ltb 0) (sym found_length)
 
 -- ---- what is known where drop's checks passed
 pub record Dropping (bytes : List ℕ) (number : ℕ) : Type 0 where
@@ -90,7 +60,7 @@ or_else_assoc a b c = side (eqb a.number 0) refl
     side false e = rw e
 
 -- fetch's checks are drop's, and one more
-fetch_drop : (bytes : List ℕ) (number out_length : ℕ) → fetch_verdict bytes number out_length ≡ or_else (drop_verdict bytes number) (unless (eqb out_length (length (fetched number (slots_in bytes)))) 3 0)
+pub fetch_drop : (bytes : List ℕ) (number out_length : ℕ) → fetch_verdict bytes number out_length ≡ or_else (drop_verdict bytes number) (unless (eqb out_length (length (fetched number (slots_in bytes)))) 3 0)
 unfolding fetch_verdict fetch_plain drop_verdict
 fetch_drop bytes number out_length = sym (or_else_assoc _ _ _)
 
@@ -124,69 +94,6 @@ store_done bytes number slot h =
       new = not-true _ (unless_done _ 30 0 (lit< tt) last.first);
       fits = leb-true _ _ (unless_done _ 31 0 (lit< tt) last.rest);
     }
-
--- ---- the checks as the code makes them
-none : (n : ℕ) → eqb n 0 ≡ not (ltb 0 n)
-none n = side (ltb 0 n) refl
-  where
-    side : (b : Bool) → ltb 0 n ≡ b → eqb n 0 ≡ not b
-    side true e = let h : 0 < n = ltb-true _ _ e in ne_eqb n 0 (λ z. let w : ⊥ = omega arith in w)
-    side false e = let h : n ≤ 0 = ltb-false _ _ e in eq-eqb n 0 (omega arith)
-
-module _ (bytes : List ℕ) (number : ℕ) where
-  pub drop_verdict_lem : (n : ℕ) → (is_bank bytes ≡ true → n ≡ length (fetched number (slots_in bytes)))
-      → or_else (unless (is_bank bytes) 28 0) (or_else (unless (is_number number) 11 0) (unless (ltb 0 n) 29 0)) ≡ drop_verdict bytes number
-  unfolding drop_verdict drop_plain
-  drop_verdict_lem n told =
-      unless_bank bytes _ _
-      (λ e.
-      ap (λ (b : Bool). or_else (unless (is_number number) 11 0) (unless b 29 0))
-      (ap (ltb 0) (told e) ∙ sym (has_digits number (slots_in bytes) (bank_holds bytes e).list)))
-
-  pub fetch_verdict_lem : (found : Found) (out_length : ℕ) → Find bytes number found
-      → or_else found.verdict (unless (eqb out_length found.length) 3 0) ≡ fetch_verdict bytes number out_length
-  fetch_verdict_lem found out_length f = rw f.verdict_is (side (eqb (drop_verdict bytes number).number 0) refl) ∙ sym (fetch_drop bytes number out_length)
-    where
-      side : (b : Bool) → eqb (drop_verdict bytes number).number 0 ≡ b
-          → or_else (drop_verdict bytes number) (unless (eqb out_length found.length) 3 0)
-          ≡ or_else (drop_verdict bytes number) (unless (eqb out_length (length (fetched number (slots_in bytes)))) 3 0)
-      side true t =
-          let e = (drop_done bytes number (eqb-true _ _ t)).bank in
-          ap (λ (n : ℕ). or_else (drop_verdict bytes number) (unless (eqb out_length n) 3 0)) (found_length bytes number found f e)
-      side false t = or_else_refused _ _ (eqb-false _ _ t) ∙ sym (or_else_refused _ _ (eqb-false _ _ t))
-
-  -- the chain of six checks, last check first
-  pub store_verdict_lem : (found : Found) (slot : List ℕ) → Find bytes number found
-      → or_else (unless (ltb 0 found.total) 28 0)
-      (or_else (unless (is_number number) 11 0)
-      (or_else (unless (is_length (length slot)) 3 0)
-      (or_else (each 0 4 (at_most 2 slot) (length slot))
-      (or_else (unless (eqb found.length 0) 30 0)
-      (unless (leb (found.total + (4 + length slot)) (length bytes)) 31 0)))))
-      ≡ store_verdict bytes number slot
-  unfolding store_verdict store_plain
-  store_verdict_lem found slot f =
-      ap (λ (b : Bool). or_else (unless b 28 0)
-      (or_else (unless (is_number number) 11 0)
-      (or_else (unless (is_length (length slot)) 3 0)
-      (or_else (each 0 4 (at_most 2 slot) (length slot))
-      (or_else (unless (eqb found.length 0) 30 0)
-      (unless (leb (found.total + (4 + length slot)) (length bytes)) 31 0)))))) (total_bank bytes number found f)
-      ∙ unless_bank bytes _ _
-      (λ e.
-      ap (λ (b : Bool). or_else (unless (is_number number) 11 0)
-      (or_else (unless (is_length (length slot)) 3 0)
-      (or_else (each 0 4 (at_most 2 slot) (length slot))
-      (or_else (unless b 30 0)
-      (unless (leb (found.total + (4 + length slot)) (length bytes)) 31 0))))) (new_is e)
-      ∙ ap (λ (n : ℕ). or_else (unless (is_number number) 11 0)
-      (or_else (unless (is_length (length slot)) 3 0)
-      (or_else (each 0 4 (at_most 2 slot) (length slot))
-      (or_else (unless (not (has number (slots_in bytes))) 30 0)
-      (unless (leb (n + (4 + length slot)) (length bytes)) 31 0))))) (found_total bytes number found f e))
-    where
-      new_is : is_bank bytes ≡ true → eqb found.length 0 ≡ not (has number (slots_in bytes))
-      new_is e = none found.length ∙ ap not (sym (found_has bytes number found f e))
 
 -- ---- where the slot stands that was found
 pub record FoundSlot (bytes : List ℕ) (number : ℕ) (found : Found) : Type 0 where

@@ -5,14 +5,15 @@ use mathlib.Core.List.{List, [], ◌∷◌, ◌++◌, append_assoc, append-nil}
 use Prim.Native.Nat.{ℕ, ◌+◌, ◌-◌, ◌≤◌}
 use native.Mathlib.Omega.{arith}
 use borrow.Rule.Slice.PartMut.{put_mid, mid_of, Post-is}
-use lib.ListN.{length, take, drop, length-append}
+use lib.ListN.{length, take, drop, length-append, length-drop}
+use Rattle.std.proofs.Math.Seq.{paste}
 use lib.Seq.{take_all, drop_at, drop-drop, drop-append-le}
 use Rattle.run.specs.Fields.{total, joined}
 use Rattle.run.specs.Written.{over}
 use Rattle.bank.specs.Slots.{Slot, without, taken}
 use Rattle.bank.specs.Layout.{slot_bytes, run, head, layout}
 use Rattle.bank.specs.Exact.{Holds}
-use Rattle.bank.proofs.Laws.{head_length, head_passed, run_cons, run_append, run_length, slot_length, taken_append}
+use Rattle.bank.proofs.Laws.{drop_take, head_length, head_passed, run_cons, run_append, run_length, slot_length, taken_append}
 use Rattle.bank.proofs.Reading.{over_layout, holds_fits}
 use Rattle.bank.proofs.Split.{Present, holds_rest, holds_front, holds_from, split_holds, split_taken}
 
@@ -72,44 +73,31 @@ module _ {bytes : List ℕ} {k : ℕ} {ss : List Slot} (h : Holds bytes ss) (p :
       ∙ holds_from before (p.slot ∷ behind) (split_holds h p)
       ∙ run_cons p.slot behind
 
-  closed : over (run behind) (slot_bytes p.slot ++ run behind) ≡ run behind ++ drop (length (run behind)) (slot_bytes p.slot ++ run behind)
-  unfolding over
-  closed =
-      let n = length-append (slot_bytes p.slot) (run behind) in
-      rw (take_all (length (slot_bytes p.slot ++ run behind)) (run behind) (omega arith))
-
-  -- what is left behind the new total
-  rest_is : drop (taken (before ++ behind)) bytes ≡ drop (length (run behind)) (slot_bytes p.slot ++ run behind) ++ drop (taken ss) bytes
-  rest_is =
-      let n = run_length behind in
-      let t : taken before + length (run behind) ≡ taken (before ++ behind) = omega (arith, taken_append before behind) in
-      let l = length-append (slot_bytes p.slot) (run behind) in
-      ap (λ (m : ℕ). drop m bytes) (sym t)
-      ∙ sym (drop-drop (length (run behind)) (taken before) bytes)
-      ∙ ap (drop (length (run behind)))
-      (holds_rest before (p.slot ∷ behind) (split_holds h p)
-      ∙ ap (λ (l : List ℕ). l ++ drop (taken whole) bytes) (run_cons p.slot behind)
-      ∙ ap (λ (m : ℕ). slot_bytes p.slot ++ run behind ++ drop m bytes) (sym taken_whole))
-      ∙ drop-append-le (length (run behind)) (slot_bytes p.slot ++ run behind) (drop (taken ss) bytes) (omega arith)
-
-  pub dropped_bytes : (size : ℕ) → size ≡ 4 + length p.slot.digits → (ys : List ℕ)
-      → ys ≡ over (drop size (mid_of (taken before) (taken ss - taken before) bytes)) (mid_of (taken before) (taken ss - taken before) bytes)
-      → over (head (taken ss - size)) (put_mid (taken before) (taken ss - taken before) bytes ys) ≡ over (layout (without k ss)) bytes
+  pub dropped_bytes : (size n : ℕ) → size ≡ 4 + length p.slot.digits → n ≡ taken ss - (taken before + size)
+      → over (head (taken ss - size)) (paste bytes (taken before) (drop (taken before + size) bytes) n) ≡ over (layout (without k ss)) bytes
   unfolding layout
-  dropped_bytes size e ys is =
+  dropped_bytes size n e m =
       let t : taken (before ++ behind) ≡ taken ss - size = omega (arith, taken_dropped) in
       let long : length (slot_bytes p.slot) ≡ size = slot_length p.slot ∙ sym e in
-      let back : ys ≡ run behind ++ drop (length (run behind)) (slot_bytes p.slot ++ run behind) =
-      is ∙ rw (part_is, drop_at (slot_bytes p.slot) (run behind) size long) closed
-      in
-      let wide : taken before ≤ taken ss = omega (arith, split_taken h p) in
-      let front : take (taken before) bytes ≡ head (taken whole) ++ run before = holds_front before (p.slot ∷ behind) (split_holds h p) in
+      let s = split_taken h p in
       let fits : taken (before ++ behind) ≤ length bytes = omega (arith, holds_fits h) in
-      rw (back, front, Post-is (taken before) (taken ss) bytes wide, append_assoc (head (taken whole)) (run before) (run behind ++ drop (length (run behind)) (slot_bytes p.slot ++ run behind) ++ drop (taken ss) bytes))
-      (head_over (taken ss - size) (taken whole) (run before ++ (run behind ++ drop (length (run behind)) (slot_bytes p.slot ++ run behind) ++ drop (taken ss) bytes))
+      let whole_fits = holds_fits h in
+      let room : taken ss - taken before ≤ length (drop (taken before) bytes) = simp length-drop (omega arith) in
+      let count : n ≡ taken ss - taken before - size = omega arith in
+      let short : size ≤ taken ss - taken before = omega arith in
+      let back : take n (drop (taken before + size) bytes) ≡ run behind =
+      rw count
+      (ap (take (taken ss - taken before - size)) (sym (drop-drop size (taken before) bytes))
+      ∙ sym (drop_take size (taken ss - taken before) (drop (taken before) bytes) short room)
+      ∙ ap (drop size) part_is
+      ∙ drop_at (slot_bytes p.slot) (run behind) size long)
+      in
+      let rest : taken before + n ≡ taken (before ++ behind) = omega arith in
+      let front : take (taken before) bytes ≡ head (taken whole) ++ run before = holds_front before (p.slot ∷ behind) (split_holds h p) in
+      rw (back, front, rest, append_assoc (head (taken whole) ++ run before) (run behind) (drop (taken (before ++ behind)) bytes), append_assoc (head (taken whole)) (run before) (run behind ++ drop (taken (before ++ behind)) bytes))
+      (head_over (taken ss - size) (taken whole) (run before ++ (run behind ++ drop (taken (before ++ behind)) bytes))
       ∙ ap (λ (l : List ℕ). head (taken ss - size) ++ l)
-      (ap (λ (l : List ℕ). run before ++ l) (append_assoc (run behind) (drop (length (run behind)) (slot_bytes p.slot ++ run behind)) (drop (taken ss) bytes) ∙ ap (λ (l : List ℕ). run behind ++ l) (sym rest_is))
-      ∙ sym (append_assoc (run before) (run behind) (drop (taken (before ++ behind)) bytes))
+      (sym (append_assoc (run before) (run behind) (drop (taken (before ++ behind)) bytes))
       ∙ ap (λ (l : List ℕ). l ++ drop (taken (before ++ behind)) bytes) (sym (run_append before behind)))
       ∙ ap (λ (n : ℕ). head n ++ (run (before ++ behind) ++ drop (taken (before ++ behind)) bytes)) (sym t)
       ∙ sym (append_assoc (head (taken (before ++ behind))) (run (before ++ behind)) (drop (taken (before ++ behind)) bytes))

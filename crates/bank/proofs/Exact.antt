@@ -8,17 +8,17 @@ use native.Mathlib.Omega.{arith}
 use borrow.Author.Tests.{eqb-true, eqb-false, le-leb}
 use lib.Dec.{eqb, lit<}
 use lib.ListN.{length, drop}
-use Rattle.run.specs.declared.Verdict.{Verdict}
+use Rattle.run.specs.Verdict.{Verdict}
 use Rattle.run.specs.Fields.{total}
 use Rattle.run.specs.Verdicts.{refused, or_else, unless, leaves, Narrow}
 use Rattle.run.specs.Written.{over}
 use Rattle.run.proofs.Chain.{unless_done, unless_pass, or_else_next, or_else_narrow, unless_narrow, check_narrow, each_narrow, leaves_done, leaves_refused, leaves_small, number_0, one_outcome}
 use Rattle.run.proofs.Never.{or_else_never, unless_never, each_never}
 use Rattle.run.proofs.Over.{over_length}
-use Rattle.bank.specs.declared.Counted.{Counted}
 use Rattle.bank.specs.Slots.{Slot, has, stored, fetched, without, taken, is_list}
 use Rattle.bank.specs.Plain.{store_plain, drop_plain, fetch_plain, Call, stores, drops, after, after_all}
 use Rattle.bank.specs.Layout.{layout, slots_in, is_room, is_bank}
+use Rattle.bank.specs.Answers.{Counted}
 use Rattle.bank.specs.Outcome.{empty_verdict, store_verdict, drop_verdict, fetch_verdict, room_verdict}
 use Rattle.bank.specs.Exact.{Holds, Bijection, Keeps, Seen, Unseen, Made, emptied, stored_in, dropped, AllMade, none, more, AfterCalls, RoomAgain, Once, PartsOnce, Packs}
 use Rattle.bank.proofs.Calls.{drop_done, store_done}

@@ -1,7 +1,9 @@
+pub mod Nonzero
 pub mod Laws
 pub mod Front
 pub mod Digits
 pub mod Reading
+pub mod Told
 pub mod Split
 pub mod Calls
 pub mod Change

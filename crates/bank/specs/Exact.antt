@@ -1,15 +1,14 @@
 -- docs/RULES.md, 'Bank': the layout and the plain list of slots say the same. Each statement is proved in proofs/Exact.antt under its name in small letters.
 -- Assumes nothing.
 use Rattle.std.specs.Prelude.{ℕ, ◌+◌, ◌-◌, ◌≤◌, ◌<◌, ◌≡◌, true, false, List, [], ◌∷◌, ◌↔◌, length, take}
-use Rattle.run.specs.declared.Verdict.{Verdict}
+use Rattle.run.specs.Verdict.{Verdict}
 use Rattle.run.specs.Refusals.{bank_refused, room_refused}
 use Rattle.run.specs.Verdicts.{refused, leaves, Narrow}
 use Rattle.run.specs.Written.{over}
-use Rattle.bank.specs.declared.Counted.{Counted}
-use Rattle.bank.specs.declared.Found.{Found}
 use Rattle.bank.specs.Slots.{Slot, fetched, taken, is_list}
 use Rattle.bank.specs.Plain.{store_plain, drop_plain, fetch_plain, Call, empties, stores, drops, after, after_all}
 use Rattle.bank.specs.Layout.{layout, total_in, slots_in, is_room, is_bank}
+use Rattle.bank.specs.Answers.{Counted, Found}
 use Rattle.bank.specs.Outcome.{empty_verdict, Empty, store_verdict, Store, drop_verdict, Find, Drop, Length, fetch_verdict, Fetch, room_verdict, Room}
 
 -- bytes hold a list of slots: a bank can hold it, and its layout stands in front

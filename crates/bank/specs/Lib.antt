@@ -1,5 +1,6 @@
 pub mod Slots
 pub mod Plain
 pub mod Layout
+pub mod Answers
 pub mod Outcome
 pub mod Exact

@@ -1,16 +1,23 @@
 -- docs/RULES.md, 'Bank': what each call answers and leaves in each lent run, for all bytes. What a call leaves in the bank is the layout of the new list over the old bytes:
 -- behind the new total they are what they were.
 -- Assumes nothing.
-use Rattle.std.specs.Prelude.{ℕ, ◌+◌, ◌-◌, ◌≡◌, cond, ◌&&◌, List, [], leb, length}
-use Rattle.run.specs.declared.Verdict.{Verdict}
+use Rattle.std.specs.Prelude.{ℕ, zero, suc, ◌+◌, ◌-◌, ◌≡◌, cond, ◌&&◌, List, [], Option, Some, None, Result, Ok, Err, leb, length}
+use Rattle.run.specs.Verdict.{Verdict}
 use Rattle.run.specs.Refusals.{bank_refused}
 use Rattle.run.specs.Verdicts.{or_else, unless, leaves}
 use Rattle.run.specs.Written.{over}
-use Rattle.bank.specs.declared.Counted.{Counted}
-use Rattle.bank.specs.declared.Found.{Found}
-use Rattle.bank.specs.Slots.{stored, fetched, without, taken, is_slot}
+use Rattle.run.specs.declared.refusal.Reason.TheVariants.{Bank}
+use Rattle.run.specs.declared.refusal.Refusal.{Refusal}
+use Rattle.bank.specs.declared.Looked.{Looked}
+use Rattle.bank.specs.Slots.{has, stored, fetched, without, taken, is_slot}
+use Rattle.bank.specs.Answers.{Counted, Found}
 use Rattle.bank.specs.Plain.{store_plain, drop_plain, fetch_plain}
 use Rattle.bank.specs.Layout.{slot_bytes, head, layout, length_in, first_slot, total_in, slots_in, begins, is_room, is_bank, place_of}
+
+-- what a part answers that has a number to tell, which is not 0, or none
+abbrev pub nonzero : ℕ → Option ℕ
+nonzero zero = None
+nonzero (suc n) = Some (suc n)
 
 -- the part that looks at the header: the total that it gives, and 0 where it is none
 unfoldable pub head_total : List ℕ → ℕ
@@ -24,6 +31,17 @@ front_length s = cond (leb 4 (length s)) (length_in s) 0
 
 unfoldable pub front_size : List ℕ → ℕ
 front_size s = cond (is_slot (first_slot s) && begins (slot_bytes (first_slot s)) s) (4 + length_in s) 0
+
+-- the parts that look through a bank: the total taken; and with it where the slot with a number begins, if there is one; 28 where the bytes are no bank
+abbrev pub no_bank : Refusal
+no_bank = record { reason = Bank; place = 0 }
+
+unfoldable pub bank_total : List ℕ → Result ℕ Refusal
+bank_total bank = cond (is_bank bank) (Ok (taken (slots_in bank))) (Err no_bank)
+
+unfoldable pub looked : List ℕ → ℕ → Result Looked Refusal
+looked bank number =
+    cond (is_bank bank) (Ok (record { total = taken (slots_in bank); start = cond (has number (slots_in bank)) (Some (place_of number (slots_in bank))) None })) (Err no_bank)
 
 -- empty: 28 for the buffer's length alone
 unfoldable pub empty_verdict : ℕ → Verdict

@@ -1,7 +1,7 @@
 -- docs/RULES.md, 'Bank': what each call answers and does on a plain list of slots, where a buffer of n bytes is to hold it. No byte is spoken of here.
 -- Assumes nothing.
 use Rattle.std.specs.Prelude.{ℕ, ◌+◌, not, List, [], ◌∷◌, eqb, leb, length}
-use Rattle.run.specs.declared.Verdict.{Verdict}
+use Rattle.run.specs.Verdict.{Verdict}
 use Rattle.run.specs.First.{at_most}
 use Rattle.run.specs.Refusals.{length_refused, digit_refused, range_refused, absent_refused, present_refused, room_refused}
 use Rattle.run.specs.Verdicts.{or_else, unless, each, leaves}

@@ -6,21 +6,18 @@ ghost use Rattle.std.specs.Prelude.{◌≡◌, ◌+◌, ◌≤◌, length};
 ghost use Rattle.run.specs.Written.{over};
 ghost use Rattle.bank.specs.Slots.{is_length};
 ghost use Rattle.bank.specs.Layout.{head, four_at, is_room};
-ghost use Rattle.bank.specs.Outcome.{head_total, front_length};
+ghost use Rattle.bank.specs.Outcome.{nonzero, head_total, front_length};
 
-use run::Verdict;
-
-// A verdict with a number that the call answers, 0 where it is refused.
+// A bank that was looked through for a slot: the total taken, and where the slot begins, if it is there.
 #[derive(Clone, Copy)]
-pub struct Counted {
-    pub verdict: Verdict,
-    pub count: usize,
+pub struct Looked {
+    pub total: usize,
+    pub start: Option<usize>,
 }
 
-// What the search for a slot answers: whether it is there, the total taken, where the slot begins and how many digits it has.
+// A slot that is there: the total taken, where the slot begins and how many digits it has.
 #[derive(Clone, Copy)]
-pub struct Found {
-    pub verdict: Verdict,
+pub struct Place {
     pub total: usize,
     pub start: usize,
     pub length: usize,
@@ -30,82 +27,61 @@ pub struct Found {
 const MARK: usize = 1397511234;
 
 // A buffer has 8 to 65536 bytes.
+#[tactic(auto, unfolding(crate::specs::Layout::is_room))]
 pub fn is_room(n: usize) -> bool
     ensures { result ≡ is_room n }
 {
-    if n < 8 {
-        return false;
-    }
-    n <= 65536
+    (8..=65536).contains(&n)
 }
 
 // A slot has 10 to 1280 digits.
+#[tactic(auto, unfolding(crate::specs::Slots::is_length))]
 pub fn is_length(n: usize) -> bool
     ensures { result ≡ is_length n }
 {
-    if n < 10 {
-        return false;
-    }
-    n <= 1280
-}
-
-fn wide(b: u8) -> usize
-    ensures { (result ≡ b) × (result ≤ 255) }
-{
-    b as usize
+    (10..=1280).contains(&n)
 }
 
 // The number that four bytes give, high byte first.
+#[tactic(auto, unfolding(crate::specs::Layout::four_at))]
 fn four_at(s: &[u8], at: usize) -> usize
     requires { «at» + 4 ≤ length s.now }
     ensures { result ≡ four_at s.now «at» }
 {
-    16777216 * wide(s[at]) + 65536 * wide(s[at + 1]) + 256 * wide(s[at + 2]) + wide(s[at + 3])
+    u32::from_be_bytes([s[at], s[at + 1], s[at + 2], s[at + 3]]) as usize
 }
 
-// The total taken as a header gives it, 0 where the buffer begins with none.
-pub fn head_total(bank: &[u8]) -> usize
-    ensures { result ≡ head_total bank.now }
+// The total taken as a header gives it, if the buffer begins with one.
+pub fn head_total(bank: &[u8]) -> Option<usize>
+    ensures { result ≡ nonzero (head_total bank.now) }
 {
-    if !is_room(bank.len()) {
-        return 0;
-    }
-    if four_at(bank, 0) != MARK {
-        return 0;
+    if !is_room(bank.len()) || four_at(bank, 0) != MARK {
+        return None;
     }
     let total = four_at(bank, 4);
-    if total < 8 {
-        return 0;
+    if total < 8 || bank.len() < total {
+        return None;
     }
-    if bank.len() < total {
-        return 0;
-    }
-    total
+    Some(total)
 }
 
 // The header of a total over the front of a buffer.
+#[tactic(auto, unfolding(crate::specs::Layout::head))]
 pub fn put_head(bank: &mut [u8], total: u32)
     ensures { bank.new ≡ over (head total) bank.old }
 {
-    let head = [
-        83u8,
-        76,
-        84,
-        66,
-        (total / 16777216) as u8,
-        (total / 65536 % 256) as u8,
-        (total / 256 % 256) as u8,
-        (total % 256) as u8,
-    ];
+    let [first, second, third, last] = total.to_be_bytes();
+    let head = [83u8, 76, 84, 66, first, second, third, last];
     write::copy(bank, &head);
 }
 
-// The number of digits that the front of a run gives, 0 where it has not the four bytes in front of a slot's digits.
+// The number of digits that the front of a run gives, 0 where it has not the four bytes in front of a slot's digits. No slot has 0 digits, and the walk from slot to slot adds the number.
+#[tactic(auto, unfolding(crate::specs::Outcome::front_length, crate::specs::Layout::length_in))]
 pub fn front_length(s: &[u8]) -> usize
     ensures { result ≡ front_length s.now }
 {
     if s.len() < 4 {
         return 0;
     }
-    256 * wide(s[2]) + wide(s[3])
+    u16::from_be_bytes([s[2], s[3]]) as usize
 }

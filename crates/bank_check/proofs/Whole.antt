@@ -1,7 +1,7 @@
 -- The check of a whole bank: what its loop keeps, from the header to the total.
 -- Assumes nothing.
 use mathlib.Core.Path.{◌≡◌, refl, sym, ap, ◌∙◌}
-use mathlib.Core.Bool.{Bool, true, false, ◌&&◌}
+use mathlib.Core.Bool.{Bool, true, false, not, ◌&&◌}
 use mathlib.Core.List.{List, ◌++◌}
 use Prim.Native.Nat.{ℕ, zero, suc, ◌+◌, ◌-◌, ◌≤◌, ◌<◌}
 use native.Mathlib.Nat.{add-zero}
@@ -16,7 +16,7 @@ use Rattle.bank.specs.Outcome.{head_total, front_size}
 use Rattle.bank.specs.Exact.{Holds}
 use Rattle.bank.proofs.Front.{Slotted, stands, stands_slotted, size_there, size_stands, none_stands, heads, heads_headed, heads_total, total_heads, heads_is}
 use Rattle.bank.proofs.Laws.{same_test, run_length, count_total, drop_take}
-use Rattle.bank.proofs.Reading.{holds_run, holds_fits, holds_heads, holds_bank, bank_holds}
+use Rattle.bank.proofs.Reading.{holds_run, holds_total, holds_fits, holds_heads, holds_bank, bank_holds}
 use Rattle.bank_check.proofs.Walk.{walks, walks_step, walks_end, walks_run, Walked, walks_list}
 
 -- a bank has a header
@@ -34,23 +34,27 @@ bank_none bytes e = side (is_bank bytes) refl
         absurd (let z : ⊥ = omega arith in z)
     side false t = refl
 
-unmarked : (n k : ℕ) → get_or {A = ℕ} (replicate n 0) k 0 ≡ 0
+-- the header of a bank gives the total taken
+pub total_told : (bytes : List ℕ) → is_bank bytes ≡ true → head_total bytes ≡ taken (slots_in bytes)
+total_told bytes e = let h = bank_holds bytes e in heads_total bytes (holds_heads h) ∙ holds_total h
+
+unmarked : (n k : ℕ) → get_or (replicate n false) k false ≡ false
 unmarked zero k = refl
 unmarked (suc n) zero = refl
 unmarked (suc n) (suc k) = unmarked n k
 
 -- behind a header, the bytes are a bank exactly where the walk passes
 module _ (bytes : List ℕ) (there : heads bytes ≡ true) where
-  bank_passes : is_bank bytes ≡ true → walks (length bytes) (replicate 256 0) (take (total_in bytes - 8) (drop 8 bytes)) ≡ true
+  bank_passes : is_bank bytes ≡ true → walks (length bytes) (replicate 256 false) (take (total_in bytes - 8) (drop 8 bytes)) ≡ true
   unfolding taken
   bank_passes e =
       let h = bank_holds bytes e in
       let few = count_total (slots_in bytes) in
       let fits = holds_fits h in
-      ap (walks (length bytes) (replicate 256 0)) (holds_run h)
-      ∙ walks_run (length bytes) (replicate 256 0) (slots_in bytes) (omega arith) h.list (λ k _. unmarked 256 k)
+      ap (walks (length bytes) (replicate 256 false)) (holds_run h)
+      ∙ walks_run (length bytes) (replicate 256 false) (slots_in bytes) (omega arith) h.list (λ k _. unmarked 256 k)
 
-  module _ (w : Walked (replicate 256 0) (take (total_in bytes - 8) (drop 8 bytes))) where
+  module _ (w : Walked (replicate 256 false) (take (total_in bytes - 8) (drop 8 bytes))) where
     total_is : taken w.slots ≡ total_in bytes
     unfolding taken
     total_is =
@@ -79,13 +83,13 @@ module _ (bytes : List ℕ) (there : heads bytes ≡ true) where
               ∙ ap (λ (l : List ℕ). head (taken w.slots) ++ l) (drop_take 8 (total_in bytes) bytes low fits ∙ w.is);
         }
 
-  bank_walks : is_bank bytes ≡ walks (length bytes) (replicate 256 0) (take (total_in bytes - 8) (drop 8 bytes))
+  bank_walks : is_bank bytes ≡ walks (length bytes) (replicate 256 false) (take (total_in bytes - 8) (drop 8 bytes))
   bank_walks =
       same_test _ _ bank_passes
-      (λ e. holds_bank (walked_holds (walks_list (length bytes) (replicate 256 0) (take (total_in bytes - 8) (drop 8 bytes)) (length-replicate {A = ℕ} 256 0) e)))
+      (λ e. holds_bank (walked_holds (walks_list (length bytes) (replicate 256 false) (take (total_in bytes - 8) (drop 8 bytes)) (length-replicate 256 false) e)))
 
 -- ---- the loop: what is left to look at is a walk too
-pub record Walking (bytes : List ℕ) (end at : ℕ) (marks : List ℕ) : Type 0 where
+pub record Walking (bytes : List ℕ) (end at : ℕ) (marks : List Bool) : Type 0 where
   pub more : ℕ
   pub enough : end ≤ at + more
   pub within : at ≤ end
@@ -93,7 +97,7 @@ pub record Walking (bytes : List ℕ) (end at : ℕ) (marks : List ℕ) : Type 0
   pub wide : length marks ≡ 256
   pub left : is_bank bytes ≡ walks more marks (take (end - at) (drop at bytes))
 
-pub walking_start : (bytes : List ℕ) (end : ℕ) → end ≡ head_total bytes → (end ≡ 0 → ⊥) → Walking bytes end 8 (replicate 256 0)
+pub walking_start : (bytes : List ℕ) (end : ℕ) → end ≡ head_total bytes → (end ≡ 0 → ⊥) → Walking bytes end 8 (replicate 256 false)
 walking_start bytes end e some =
     let there = total_heads bytes (λ z. some (e ∙ z)) in
     let f = heads_headed bytes there in
@@ -105,11 +109,11 @@ walking_start bytes end e some =
       enough = omega arith;
       within = omega arith;
       fits = omega arith;
-      wide = length-replicate {A = ℕ} 256 0;
-      left = bank_walks bytes there ∙ ap (λ (n : ℕ). walks (length bytes) (replicate 256 0) (take (n - 8) (drop 8 bytes))) (sym is);
+      wide = length-replicate 256 false;
+      left = bank_walks bytes there ∙ ap (λ (n : ℕ). walks (length bytes) (replicate 256 false) (take (n - 8) (drop 8 bytes))) (sym is);
     }
 
-module _ {bytes : List ℕ} {end at : ℕ} {marks : List ℕ} (w : Walking bytes end at marks) where
+module _ {bytes : List ℕ} {end at : ℕ} {marks : List Bool} (w : Walking bytes end at marks) where
   pub walking_end : end ≤ at → is_bank bytes ≡ true
   walking_end h =
       let none : end - at ≡ 0 = omega arith in
@@ -131,8 +135,8 @@ module _ {bytes : List ℕ} {end at : ℕ} {marks : List ℕ} (w : Walking bytes
     step : (n : ℕ) → w.more ≡ suc n
         → is_bank bytes
         ≡ (stands (take (end - at) (drop at bytes))
-        && (eqb (get_or marks (get_or bytes at 0) 0) 0
-        && walks n (set marks (get_or bytes at 0) 1) (drop (4 + length_in (take (end - at) (drop at bytes))) (take (end - at) (drop at bytes)))))
+        && (not (get_or marks (get_or bytes at 0) false)
+        && walks n (set marks (get_or bytes at 0) true) (drop (4 + length_in (take (end - at) (drop at bytes))) (take (end - at) (drop at bytes)))))
     step n e =
         let long = part_long in
         w.left
@@ -147,9 +151,9 @@ module _ {bytes : List ℕ} {end at : ℕ} {marks : List ℕ} (w : Walking bytes
     walking_none e = step (w.more - 1) more_is ∙ rw (none_stands (take (end - at) (drop at bytes)) e)
 
     module _ (there : front_size (take (end - at) (drop at bytes)) ≡ 0 → ⊥) where
-      pub walking_seen : (get_or marks (get_or bytes at 0) 0 ≡ 0 → ⊥) → is_bank bytes ≡ false
+      pub walking_seen : get_or marks (get_or bytes at 0) false ≡ true → is_bank bytes ≡ false
       walking_seen e =
-          step (w.more - 1) more_is ∙ rw (size_stands (take (end - at) (drop at bytes)) there, ne_eqb (get_or marks (get_or bytes at 0) 0) 0 e)
+          step (w.more - 1) more_is ∙ rw (size_stands (take (end - at) (drop at bytes)) there, e)
 
       front : Slotted (take (end - at) (drop at bytes))
       front = stands_slotted (take (end - at) (drop at bytes)) (size_stands (take (end - at) (drop at bytes)) there)
@@ -164,8 +168,8 @@ module _ {bytes : List ℕ} {end at : ℕ} {marks : List ℕ} (w : Walking bytes
           let long = part_long in
           omega arith
 
-      pub walking_next : (size : ℕ) → size ≡ front_size (take (end - at) (drop at bytes)) → get_or marks (get_or bytes at 0) 0 ≡ 0
-          → Walking bytes end (at + size) (set marks (get_or bytes at 0) 1)
+      pub walking_next : (size : ℕ) → size ≡ front_size (take (end - at) (drop at bytes)) → get_or marks (get_or bytes at 0) false ≡ false
+          → Walking bytes end (at + size) (set marks (get_or bytes at 0) true)
       walking_next size told clean =
           let e = size_there (take (end - at) (drop at bytes)) front in
           let is : 4 + length_in (take (end - at) (drop at bytes)) ≡ size = sym e ∙ sym told in
@@ -183,10 +187,10 @@ module _ {bytes : List ℕ} {end at : ℕ} {marks : List ℕ} (w : Walking bytes
             enough = omega arith;
             within = omega arith;
             fits = all;
-            wide = length-set marks (get_or bytes at 0) 1 ∙ w.wide;
+            wide = length-set marks (get_or bytes at 0) true ∙ w.wide;
             left =
                 step (w.more - 1) more_is
-                ∙ rw (size_stands (take (end - at) (drop at bytes)) there, eq-eqb (get_or marks (get_or bytes at 0) 0) 0 clean, is)
-                (ap (walks (w.more - 1) (set marks (get_or bytes at 0) 1))
+                ∙ rw (size_stands (take (end - at) (drop at bytes)) there, clean, is)
+                (ap (walks (w.more - 1) (set marks (get_or bytes at 0) true))
                 (drop_take size (end - at) (drop at bytes) short room ∙ rw (own, drop-drop size at bytes)));
           }

@@ -19,10 +19,6 @@ use Rattle.bank.proofs.Laws.{run_cons, slot_length, length_read, taken_append, c
 use Rattle.bank.proofs.Reading.{holds_fits, holds_total, holds_heads, bank_holds}
 use Rattle.bank.proofs.Split.{holds_from, present, absent}
 
--- the header of a bank gives the total taken
-pub total_told : (bytes : List ℕ) → is_bank bytes ≡ true → head_total bytes ≡ taken (slots_in bytes)
-total_told bytes e = let h = bank_holds bytes e in heads_total bytes (holds_heads h) ∙ holds_total h
-
 -- the number of digits where a list begins
 pub front_run : (s : Slot) (ss : List Slot) → front_length (run (s ∷ ss)) ≡ length s.digits
 front_run s ss =
@@ -44,11 +40,12 @@ pub record Seeking (bytes : List ℕ) (number end at : ℕ) : Type 0 where
   pub end_is : end ≡ taken (passed ++ left)
   pub at_is : at ≡ taken passed
   pub place : place_of number (slots_in bytes) ≡ place_from number at left
+  pub there : has number (slots_in bytes) ≡ has number left
 
 pub seek_start : (bytes : List ℕ) (number end : ℕ) → is_bank bytes ≡ true → end ≡ taken (slots_in bytes) → Seeking bytes number end 8
 unfolding taken total
 seek_start bytes number end e t =
-    record { passed = []; left = slots_in bytes; holds = bank_holds bytes e; end_is = t; at_is = refl; place = refl }
+    record { passed = []; left = slots_in bytes; holds = bank_holds bytes e; end_is = t; at_is = refl; place = refl; there = refl }
 
 module _ {bytes : List ℕ} {number end at : ℕ} (w : Seeking bytes number end at) where
   pub seek_within : at ≤ end
@@ -61,12 +58,12 @@ module _ {bytes : List ℕ} {number end at : ℕ} (w : Seeking bytes number end 
   pub seek_left : take (end - at) (drop at bytes) ≡ run w.left
   seek_left = rw (w.end_is, w.at_is) (holds_from w.passed w.left w.holds)
 
-  pub seek_end : end ≤ at → at ≡ place_of number (slots_in bytes)
-  unfolding place_from
+  pub seek_end : end ≤ at → has number (slots_in bytes) ≡ false
+  unfolding has
   seek_end h = ended w.left refl
     where
-      ended : (ss : List Slot) → w.left ≡ ss → at ≡ place_of number (slots_in bytes)
-      ended [] e = sym (w.place ∙ ap (place_from number at) e)
+      ended : (ss : List Slot) → w.left ≡ ss → has number (slots_in bytes) ≡ false
+      ended [] e = w.there ∙ ap (has number) e
       ended (s ∷ ss) e =
           let a = w.end_is in
           let b = w.at_is in
@@ -106,12 +103,12 @@ module _ {bytes : List ℕ} {number end at : ℕ} (w : Seeking bytes number end 
     pub length_is : front_length (take (end - at) (drop at bytes)) ≡ length x.slot.digits
     length_is = ap front_length (seek_left ∙ ap run x.is) ∙ front_run x.slot x.behind
 
-    pub seek_found : x.slot.number ≡ number → at ≡ place_of number (slots_in bytes)
-    unfolding place_from
-    seek_found e = sym (w.place ∙ ap (place_from number at) x.is ∙ rw (eq-eqb _ _ e))
+    pub seek_found : x.slot.number ≡ number → (has number (slots_in bytes) ≡ true) × (at ≡ place_of number (slots_in bytes))
+    unfolding place_from has
+    seek_found e = (w.there ∙ ap (has number) x.is ∙ rw (eq-eqb _ _ e), sym (w.place ∙ ap (place_from number at) x.is ∙ rw (eq-eqb _ _ e)))
 
     pub seek_more : (size : ℕ) → size ≡ 4 + length x.slot.digits → (x.slot.number ≡ number → ⊥) → Seeking bytes number end (at + size)
-    unfolding place_from total
+    unfolding place_from has total
     seek_more size told other =
         let whole : w.passed ++ w.left ≡ (w.passed ++ x.slot ∷ []) ++ x.behind =
         ap (λ (l : List Slot). w.passed ++ l) x.is ∙ sym (append_assoc w.passed (x.slot ∷ []) x.behind)
@@ -125,6 +122,7 @@ module _ {bytes : List ℕ} {number end at : ℕ} (w : Seeking bytes number end 
           end_is = w.end_is ∙ ap taken whole;
           at_is = omega arith;
           place = w.place ∙ ap (place_from number at) x.is ∙ rw (ne_eqb _ _ other, told);
+          there = w.there ∙ ap (has number) x.is ∙ rw (ne_eqb _ _ other);
         }
 
 -- ---- the slot where the search ended

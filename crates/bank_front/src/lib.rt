@@ -3,7 +3,7 @@
 
 ghost use Rattle.std.specs.Prelude.{◌≡◌, length};
 ghost use Rattle.run.specs.First.{all, at_most};
-ghost use Rattle.bank.specs.Outcome.{front_size};
+ghost use Rattle.bank.specs.Outcome.{nonzero, front_size};
 
 use bank::{front_length, is_length};
 
@@ -11,35 +11,31 @@ use bank::{front_length, is_length};
 fn are_digits(s: &[u8]) -> bool
     ensures { result ≡ all (length s.now) (at_most 2 s.now) }
 {
-    let n = s.len();
-    let mut i = 0;
-    while 16 <= n - i {
-        let end = i + 16;
-        if !scan::all_at_most(&s[i..end], 2, 16) {
+    let parts = s.chunks_exact(16);
+    let rest = parts.remainder();
+    for part in parts {
+        if !scan::all_at_most(part, 2, 16) {
             return false;
         }
-        i = end;
     }
-    scan::all_at_most(&s[i..n], 2, n - i)
+    scan::all_at_most(rest, 2, rest.len())
 }
 
-// The bytes that the slot at the front of a run takes, 0 where no slot stands there.
-pub fn front_size(s: &[u8]) -> usize
-    ensures { result ≡ front_size s.now }
+// The bytes that the slot at the front of a run takes, if one stands there.
+pub fn front_size(s: &[u8]) -> Option<usize>
+    ensures { result ≡ nonzero (front_size s.now) }
 {
     let length = front_length(s);
     if !is_length(length) {
-        return 0;
+        return None;
     }
     let end = 4 + length;
-    if s.len() < end {
-        return 0;
-    }
-    if s[1] != 0 {
-        return 0;
+    if s.len() < end || s[1] != 0 {
+        return None;
     }
     if are_digits(&s[4..end]) {
-        return end;
+        Some(end)
+    } else {
+        None
     }
-    0
 }

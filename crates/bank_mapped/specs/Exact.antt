@@ -1,7 +1,7 @@
 -- docs/RULES.md, 'Bank': a bank takes the slots that the mapper of the downlink DPCH writes, and gives them back. Proved in proofs/Exact.antt under its name in small letters.
 -- Assumes nothing.
 use Rattle.std.specs.Prelude.{ℕ, ◌+◌, ◌≤◌, ◌≡◌, true, false, List, length}
-use Rattle.run.specs.declared.Verdict.{Verdict}
+use Rattle.run.specs.Verdict.{Verdict}
 use Rattle.run.specs.Verdicts.{done}
 use Rattle.slot.specs.Outcome.{Map}
 use Rattle.bank.specs.Slots.{has, taken, is_number}

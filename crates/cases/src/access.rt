@@ -1,7 +1,7 @@
 // The random access desk: the desk, what is heard, the available set and n stand before the run that is lent. A distance is asked by its timing.
 use crate::question::{VALUES, number, run};
 use crate::{answer, question};
-use desk::{Desk, Distance};
+use desk::Desk;
 use std::io;
 
 // A set of signatures.
@@ -9,14 +9,15 @@ fn set(line: &[u8], k: usize) -> u16 {
     (number(line, k) % 65536) as u16
 }
 
+// The desk afterwards: as it was where the call refuses.
 fn tell(rt: &impl Print, line: &[u8], values: &mut [i32]) -> io::Result<()> {
     let before = Desk {
         last: number(line, 1),
     };
     let served = desk_serve::serve(before, set(line, 2), set(line, 3), number(line, 4), values);
-    let after = served.desk;
-    answer::verdict(rt, served.verdict)?;
+    answer::told(rt, served.map(|_| ()))?;
     answer::text(rt, b" last=")?;
+    let after = served.unwrap_or(before);
     answer::number(rt, after.last)?;
     answer::key(rt, line, 0)?;
     let mut shown = [0; VALUES];
@@ -30,16 +31,10 @@ pub(crate) fn serve(rt: &impl Print, line: &[u8]) -> io::Result<()> {
     tell(rt, line, &mut out[..m])
 }
 
-fn distance(rt: &impl Print, distance: Distance) -> io::Result<()> {
-    answer::verdict(rt, distance.verdict)?;
-    answer::text(rt, b" chips=")?;
-    answer::number(rt, distance.chips)
-}
-
 pub(crate) fn to_aich(rt: &impl Print, line: &[u8]) -> io::Result<()> {
-    distance(rt, desk::to_aich(number(line, 1)))
+    answer::value(rt, desk::to_aich(number(line, 1)), b" chips=")
 }
 
 pub(crate) fn to_message(rt: &impl Print, line: &[u8]) -> io::Result<()> {
-    distance(rt, desk::to_message(number(line, 1)))
+    answer::value(rt, desk::to_message(number(line, 1)), b" chips=")
 }

@@ -1,6 +1,6 @@
 // An answer: ` -> done` or ` -> refused NUMBER PLACE`, and the runs that were lent, each behind its key.
 use crate::question;
-use run::Verdict;
+use run::Refusal;
 use std::io;
 
 pub(crate) fn put(rt: &impl Print, byte: u8) -> io::Result<()> {
@@ -13,10 +13,8 @@ pub(crate) fn put(rt: &impl Print, byte: u8) -> io::Result<()> {
 
 // Text in which a digit is what it is.
 pub(crate) fn text(rt: &impl Print, text: &[u8]) -> io::Result<()> {
-    let mut i = 0;
-    while i < text.len() {
-        put(rt, text[i])?;
-        i += 1;
+    for byte in text {
+        put(rt, *byte)?;
     }
     Ok(())
 }
@@ -25,15 +23,23 @@ pub(crate) fn number(rt: &impl Print, n: usize) -> io::Result<()> {
     print!(rt; "{n}")
 }
 
-pub(crate) fn verdict(rt: &impl Print, verdict: Verdict) -> io::Result<()> {
-    if verdict.number == 0 {
-        text(rt, b" -> done")
-    } else {
-        text(rt, b" -> refused ")?;
-        number(rt, verdict.number)?;
-        put(rt, b' ')?;
-        number(rt, verdict.place)
+pub(crate) fn told(rt: &impl Print, told: Result<(), Refusal>) -> io::Result<()> {
+    match told {
+        Ok(()) => text(rt, b" -> done"),
+        Err(refused) => {
+            text(rt, b" -> refused ")?;
+            number(rt, refused.reason.number())?;
+            put(rt, b' ')?;
+            number(rt, refused.place)
+        }
     }
+}
+
+// .. and what a call tells beside it, with the key before it: 0 where it refuses.
+pub(crate) fn value(rt: &impl Print, value: Result<usize, Refusal>, key: &[u8]) -> io::Result<()> {
+    told(rt, value.map(|_| ()))?;
+    text(rt, key)?;
+    number(rt, value.unwrap_or(0))
 }
 
 // The key that stands so many keys before the question's last.
@@ -48,29 +54,18 @@ pub(crate) fn key(rt: &impl Print, line: &[u8], before: usize) -> io::Result<()>
     put(rt, b'=')
 }
 
-pub(crate) fn run(
-    rt: &impl Print,
-    shown: bool,
-    line: &[u8],
-    before: usize,
-    run: &[u8],
-) -> io::Result<()> {
-    if shown {
-        key(rt, line, before)?;
-        text(rt, run)?;
-    }
-    Ok(())
+pub(crate) fn run(rt: &impl Print, line: &[u8], before: usize, run: &[u8]) -> io::Result<()> {
+    key(rt, line, before)?;
+    text(rt, run)
 }
 
 // How large a number is, and 0 for one of more than twelve digits: no case has any.
 fn size_of(v: i64) -> u64 {
     if range::between(v, -1000000000000, 1000000000000) {
-        if v < 0 {
-            return (0 - v) as u64;
-        }
-        return v as u64;
+        v.unsigned_abs()
+    } else {
+        0
     }
-    0
 }
 
 // A number, behind a comma where it is not the first.
@@ -86,10 +81,8 @@ fn signed(rt: &impl Print, i: usize, v: i64) -> io::Result<()> {
 }
 
 pub(crate) fn values(rt: &impl Print, run: &[i64]) -> io::Result<()> {
-    let mut i = 0;
-    while i < run.len() {
+    for i in 0..run.len() {
         signed(rt, i, run[i])?;
-        i += 1;
     }
     Ok(())
 }

@@ -1,11 +1,47 @@
 // The calls on runs of digits.
 use crate::question::{DIGITS, number, run};
 use crate::{answer, question, uplink};
-use pich::Pi;
-use run::Verdict;
+use pich::{Indicator, Pi};
+use run::Refusal;
 use std::io;
 
-fn slot_map(line: &[u8], out: &mut [u8]) -> Verdict {
+// The calls that are lent one run.
+#[derive(Clone, Copy)]
+pub(crate) enum One {
+    SlotMap,
+    AntennaMap,
+    FrameMap,
+    PccpchRead,
+    PichMap,
+    PichRead,
+    DpdchMap,
+    DpdchRead,
+    DpdchFrameMap,
+    DpdchFrameRead,
+    DpcchMap,
+    DpcchFrameMap,
+    CompressedMap,
+    Sttd,
+}
+
+// .. two ..
+#[derive(Clone, Copy)]
+pub(crate) enum Two {
+    SlotRead,
+    AntennasRead,
+    PccpchMap,
+    DpcchRead,
+}
+
+// .. and three.
+#[derive(Clone, Copy)]
+pub(crate) enum Three {
+    FrameRead,
+    DpcchFrameRead,
+    CompressedRead,
+}
+
+fn slot_map(line: &[u8], out: &mut [u8]) -> Result<(), Refusal> {
     slot_map::map(
         number(line, 1),
         number(line, 2),
@@ -16,7 +52,7 @@ fn slot_map(line: &[u8], out: &mut [u8]) -> Verdict {
     )
 }
 
-fn antenna_map(line: &[u8], out: &mut [u8]) -> Verdict {
+fn antenna_map(line: &[u8], out: &mut [u8]) -> Result<(), Refusal> {
     antenna_map::map(
         number(line, 1),
         number(line, 2),
@@ -28,7 +64,7 @@ fn antenna_map(line: &[u8], out: &mut [u8]) -> Verdict {
     )
 }
 
-fn frame_map(line: &[u8], out: &mut [u8]) -> Verdict {
+fn frame_map(line: &[u8], out: &mut [u8]) -> Result<(), Refusal> {
     frame_map::map(
         number(line, 1),
         run(line, 4),
@@ -38,7 +74,7 @@ fn frame_map(line: &[u8], out: &mut [u8]) -> Verdict {
     )
 }
 
-fn compressed_map(line: &[u8], out: &mut [u8]) -> Verdict {
+fn compressed_map(line: &[u8], out: &mut [u8]) -> Result<(), Refusal> {
     compressed_map::map(
         number(line, 1),
         number(line, 2),
@@ -51,143 +87,144 @@ fn compressed_map(line: &[u8], out: &mut [u8]) -> Verdict {
     )
 }
 
-fn pccpch_read(line: &[u8], data: &mut [u8]) -> Verdict {
-    pccpch_read::read(run(line, 1), run(line, 2), data)
-}
-
-fn pich_map(line: &[u8], frame: &mut [u8]) -> Verdict {
-    pich_map::map(number(line, 1), run(line, 2), frame)
-}
-
-fn pich_read(line: &[u8], indicators: &mut [u8]) -> Verdict {
-    pich_read::read(number(line, 1), run(line, 2), indicators)
-}
-
-// A call that is lent one run.
-fn write_one(call: usize, line: &[u8], out: &mut [u8]) -> Verdict {
+fn write_one(call: One, line: &[u8], out: &mut [u8]) -> Result<(), Refusal> {
     match call {
-        question::SLOT_MAP => slot_map(line, out),
-        question::ANTENNA_MAP => antenna_map(line, out),
-        question::FRAME_MAP => frame_map(line, out),
-        question::PCCPCH_READ => pccpch_read(line, out),
-        question::PICH_MAP => pich_map(line, out),
-        question::PICH_READ => pich_read(line, out),
-        question::DPDCH_MAP..=question::DPCCH_FRAME_MAP => uplink::write_one(call, line, out),
-        question::COMPRESSED_MAP => compressed_map(line, out),
-        _ => sttd_digits::digits(run(line, 1), out),
+        One::SlotMap => slot_map(line, out),
+        One::AntennaMap => antenna_map(line, out),
+        One::FrameMap => frame_map(line, out),
+        One::PccpchRead => pccpch_read::read(run(line, 1), run(line, 2), out),
+        One::PichMap => pich_map::map(number(line, 1), run(line, 2), out),
+        One::PichRead => pich_read::read(number(line, 1), run(line, 2), out),
+        One::DpdchMap => dpdch::map(number(line, 1), run(line, 2), out),
+        One::DpdchRead => dpdch::read(number(line, 1), run(line, 2), out),
+        One::DpdchFrameMap => dpdch::frame_map(number(line, 1), run(line, 2), out),
+        One::DpdchFrameRead => dpdch::frame_read(number(line, 1), run(line, 2), out),
+        One::DpcchMap => uplink::map(line, out),
+        One::DpcchFrameMap => uplink::frame_map(line, out),
+        One::CompressedMap => compressed_map(line, out),
+        One::Sttd => sttd_digits::digits(run(line, 1), out),
     }
 }
 
-fn slot_read(rt: &impl Print, line: &[u8], tfci: &mut [u8], data: &mut [u8]) -> io::Result<()> {
-    let command = slot_read::read(number(line, 1), number(line, 2), run(line, 3), data, tfci);
-    answer::verdict(rt, command.verdict)?;
-    answer::text(rt, b" TPC=")?;
-    answer::number(rt, command.tpc)
+fn slot_read(line: &[u8], tfci: &mut [u8], data: &mut [u8]) -> Result<usize, Refusal> {
+    slot_read::read(number(line, 1), number(line, 2), run(line, 3), data, tfci)
 }
 
-fn antennas_read(rt: &impl Print, line: &[u8], tfci: &mut [u8], data: &mut [u8]) -> io::Result<()> {
-    let command = antenna_read::read(
+fn antennas_read(line: &[u8], tfci: &mut [u8], data: &mut [u8]) -> Result<usize, Refusal> {
+    antenna_read::read(
         number(line, 1),
         number(line, 2),
         run(line, 3),
         run(line, 4),
         data,
         tfci,
-    );
-    answer::verdict(rt, command.verdict)?;
-    answer::text(rt, b" TPC=")?;
-    answer::number(rt, command.tpc)
-}
-
-fn pccpch_map(
-    rt: &impl Print,
-    line: &[u8],
-    antenna1: &mut [u8],
-    antenna2: &mut [u8],
-) -> io::Result<()> {
-    answer::verdict(rt, pccpch::map(run(line, 1), antenna1, antenna2))
-}
-
-fn frame_read(
-    rt: &impl Print,
-    line: &[u8],
-    commands: &mut [u8],
-    tfci: &mut [u8],
-    data: &mut [u8],
-) -> io::Result<()> {
-    answer::verdict(
-        rt,
-        frame_read::read(number(line, 1), run(line, 2), data, tfci, commands),
     )
 }
 
-fn compressed_read(
+// The runs are the question's last ones, in their order.
+fn write_two(
     rt: &impl Print,
-    line: &[u8],
-    commands: &mut [u8],
-    tfci: &mut [u8],
-    data: &mut [u8],
-) -> io::Result<()> {
-    answer::verdict(
-        rt,
-        compressed_read::read(
-            number(line, 1),
-            number(line, 2),
-            number(line, 3),
-            number(line, 4),
-            run(line, 5),
-            data,
-            tfci,
-            commands,
-        ),
-    )
-}
-
-// The call with the runs that it is lent, which are the question's last ones.
-fn write(
-    rt: &impl Print,
-    call: usize,
+    call: Two,
     line: &[u8],
     first: &mut [u8],
     second: &mut [u8],
-    third: &mut [u8],
 ) -> io::Result<()> {
     match call {
-        question::SLOT_READ => slot_read(rt, line, second, third),
-        question::ANTENNAS_READ => antennas_read(rt, line, second, third),
-        question::PCCPCH_MAP => pccpch_map(rt, line, second, third),
-        question::DPCCH_READ => uplink::read(rt, line, second, third),
-        question::FRAME_READ => frame_read(rt, line, first, second, third),
-        question::DPCCH_FRAME_READ => uplink::frame_read(rt, line, first, second, third),
-        question::COMPRESSED_READ => compressed_read(rt, line, first, second, third),
-        _ => answer::verdict(rt, write_one(call, line, third)),
+        Two::SlotRead => answer::value(rt, slot_read(line, first, second), b" TPC="),
+        Two::AntennasRead => answer::value(rt, antennas_read(line, first, second), b" TPC="),
+        Two::PccpchMap => answer::told(rt, pccpch::map(run(line, 1), first, second)),
+        Two::DpcchRead => answer::value(rt, uplink::read(line, first, second), b" TPC="),
     }
 }
 
-// The answer: a call that is lent fewer than three runs leaves the others alone, and they are not its.
-fn tell(
+fn compressed_read(
+    line: &[u8],
+    commands: &mut [u8],
+    tfci: &mut [u8],
+    data: &mut [u8],
+) -> Result<(), Refusal> {
+    compressed_read::read(
+        number(line, 1),
+        number(line, 2),
+        number(line, 3),
+        number(line, 4),
+        run(line, 5),
+        data,
+        tfci,
+        commands,
+    )
+}
+
+fn write_three(
+    call: Three,
+    line: &[u8],
+    first: &mut [u8],
+    second: &mut [u8],
+    third: &mut [u8],
+) -> Result<(), Refusal> {
+    match call {
+        Three::FrameRead => {
+            frame_read::read(number(line, 1), run(line, 2), third, second, first)
+        }
+        Three::DpcchFrameRead => uplink::frame_read(line, first, second, third),
+        Three::CompressedRead => compressed_read(line, first, second, third),
+    }
+}
+
+fn tell_one(rt: &impl Print, call: One, line: &[u8], out: &mut [u8]) -> io::Result<()> {
+    answer::told(rt, write_one(call, line, out))?;
+    answer::run(rt, line, 0, out)
+}
+
+fn tell_two(
     rt: &impl Print,
-    call: usize,
+    call: Two,
+    line: &[u8],
+    first: &mut [u8],
+    second: &mut [u8],
+) -> io::Result<()> {
+    write_two(rt, call, line, first, second)?;
+    answer::run(rt, line, 1, first)?;
+    answer::run(rt, line, 0, second)
+}
+
+fn tell_three(
+    rt: &impl Print,
+    call: Three,
     line: &[u8],
     first: &mut [u8],
     second: &mut [u8],
     third: &mut [u8],
 ) -> io::Result<()> {
-    write(rt, call, line, first, second, third)?;
-    answer::run(rt, question::FRAME_READ <= call, line, 2, first)?;
-    answer::run(rt, question::SLOT_READ <= call, line, 1, second)?;
-    answer::run(rt, true, line, 0, third)
+    answer::told(rt, write_three(call, line, first, second, third))?;
+    answer::run(rt, line, 2, first)?;
+    answer::run(rt, line, 1, second)?;
+    answer::run(rt, line, 0, third)
 }
 
-// Lends copies of the question's last three runs.
-pub(crate) fn lend(rt: &impl Print, call: usize, line: &[u8]) -> io::Result<()> {
+// Each lends copies of the question's last runs.
+pub(crate) fn lend_one(rt: &impl Print, call: One, line: &[u8]) -> io::Result<()> {
+    let mut out = [0; DIGITS];
+    let n = question::lend(line, 0, &mut out);
+    tell_one(rt, call, line, &mut out[..n])
+}
+
+pub(crate) fn lend_two(rt: &impl Print, call: Two, line: &[u8]) -> io::Result<()> {
+    let mut first = [0; DIGITS];
+    let n = question::lend(line, 1, &mut first);
+    let mut second = [0; DIGITS];
+    let m = question::lend(line, 0, &mut second);
+    tell_two(rt, call, line, &mut first[..n], &mut second[..m])
+}
+
+pub(crate) fn lend_three(rt: &impl Print, call: Three, line: &[u8]) -> io::Result<()> {
     let mut first = [0; DIGITS];
     let n = question::lend(line, 2, &mut first);
     let mut second = [0; DIGITS];
     let m = question::lend(line, 1, &mut second);
     let mut third = [0; DIGITS];
     let l = question::lend(line, 0, &mut third);
-    tell(
+    tell_three(
         rt,
         call,
         line,
@@ -198,9 +235,6 @@ pub(crate) fn lend(rt: &impl Print, call: usize, line: &[u8]) -> io::Result<()> 
 }
 
 pub(crate) fn q(rt: &impl Print, line: &[u8]) -> io::Result<()> {
-    let paging = pich::q(number(line, 1), Pi(number(line, 3)), number(line, 2));
-    let q = paging.q;
-    answer::verdict(rt, paging.verdict)?;
-    answer::text(rt, b" q=")?;
-    answer::number(rt, q.0)
+    let q = pich::q(number(line, 1), Pi(number(line, 3)), number(line, 2));
+    answer::value(rt, q.map(|Indicator(q)| q), b" q=")
 }

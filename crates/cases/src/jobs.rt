@@ -2,14 +2,13 @@
 ghost use Rattle.std.specs.Prelude.{◌≤◌};
 
 use crate::{answer, long};
-use run::{Verdict, or_else, shorter};
+use run::Refusal;
 use std::io;
 
-fn tell(rt: &impl Print, verdict: Verdict) -> io::Result<()> {
-    if verdict.number != 0 {
+fn tell(rt: &impl Print, told: Result<(), Refusal>) -> io::Result<()> {
+    if let Err(refused) = told {
         let mut line = [0u8; lines::LINE];
-        let told = lines::tell(verdict, &mut line);
-        let n = told.length;
+        let n = lines::tell(refused.reason.number(), refused.place, &mut line).unwrap_or(0);
         answer::text(rt, &line[..n])?;
     }
     Ok(())
@@ -23,12 +22,11 @@ fn small(offset: usize) -> u32
 }
 
 // What stands behind the record at an offset, of this size.
-fn end(rest: &[u8], limit: u32, at: u32, size: usize) -> Verdict
+fn end(rest: &[u8], limit: u32, at: u32, size: usize) -> Result<(), Refusal>
     requires { «at» ≤ 65536 }
 {
-    let n = rest.len();
-    let behind = shorter(size, n);
-    job_check::end(&rest[behind..n], at + small(behind), limit)
+    let behind = size.min(rest.len());
+    job_check::end(&rest[behind..], at + small(behind), limit)
 }
 
 // The record at an offset, and what follows it.
@@ -36,30 +34,31 @@ fn record(rt: &impl Print, rest: &[u8], limit: u32, at: u32) -> io::Result<()>
     requires { «at» ≤ 65536 }
 {
     let mut line = [0u8; lines::LINE];
-    let ran = job_run::run(rest, at, limit, &mut line);
-    let n = ran.length;
-    answer::text(rt, &line[..n])?;
-    tell(rt, or_else(ran.verdict, end(rest, limit, at, ran.size)))
+    match job_run::run(rest, at, limit, &mut line) {
+        Ok(ran) => {
+            let n = ran.length;
+            answer::text(rt, &line[..n])?;
+            tell(rt, end(rest, limit, at, ran.size))
+        }
+        Err(refused) => tell(rt, Err(refused)),
+    }
 }
 
 // The first record of a file, where it begins.
 fn first(rt: &impl Print, file: &[u8], limit: u32, next: usize) -> io::Result<()> {
-    let n = file.len();
-    let from = shorter(next, n);
-    let at = small(from);
-    record(rt, &file[from..n], limit, at)
+    let from = next.min(file.len());
+    record(rt, &file[from..], limit, small(from))
 }
 
 fn print(rt: &impl Print, file: &[u8]) -> io::Result<()> {
     let mut line = [0u8; lines::LINE];
-    let opened = job_open::open(file, &mut line);
-    let n = opened.length;
-    answer::text(rt, &line[..n])?;
-    let verdict = opened.verdict;
-    if verdict.number != 0 {
-        tell(rt, verdict)
-    } else {
-        first(rt, file, opened.limit, opened.next)
+    match job_open::open(file, &mut line) {
+        Ok(opened) => {
+            let n = opened.length;
+            answer::text(rt, &line[..n])?;
+            first(rt, file, opened.limit, opened.next)
+        }
+        Err(refused) => tell(rt, Err(refused)),
     }
 }
 
@@ -67,5 +66,6 @@ fn print(rt: &impl Print, file: &[u8]) -> io::Result<()> {
 pub(crate) fn lend(rt: &impl Print, text: &[u8]) -> io::Result<()> {
     let mut file = [0; 65536];
     let n = long::unfold(text, &mut file);
+    answer::put(rt, b'\n')?;
     print(rt, &file[..n])
 }

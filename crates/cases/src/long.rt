@@ -4,7 +4,6 @@ ghost use Rattle.std.specs.Prelude.{◌≡◌, ◌≤◌, length, take};
 
 use crate::question;
 use crate::question::piece;
-use run::shorter;
 
 // The digits over and over, as many as are asked for and there is room for.
 fn repeat(digits: &[u8], asked: usize, to: &mut [u8]) -> usize
@@ -14,11 +13,9 @@ fn repeat(digits: &[u8], asked: usize, to: &mut [u8]) -> usize
     if width == 0 {
         return 0;
     }
-    let n = shorter(asked, to.len());
-    let mut i = 0;
-    while i < n {
+    let n = asked.min(to.len());
+    for i in 0..n {
         to[i] = digits[i % width];
-        i += 1;
     }
     n
 }
@@ -38,10 +35,8 @@ pub(crate) fn unfold(text: &[u8], to: &mut [u8]) -> usize
     ensures { (result ≤ length to.new) × (result ≡ length (take result to.new)) }
 {
     let mut n = 0;
-    let mut k = 0;
-    while k < to.len() {
+    for k in 0..to.len() {
         n += part(piece(text, b',', k), &mut to[n..]);
-        k += 1;
     }
     n
 }

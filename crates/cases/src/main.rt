@@ -24,59 +24,60 @@ mod uplink;
 mod values;
 mod wakes;
 
+use question::Call;
 use std::io;
 use std::io::Read;
 
-fn ask(rt: &impl Print, call: usize, line: &[u8]) -> io::Result<()> {
+fn ask(rt: &impl Print, call: Call, line: &[u8]) -> io::Result<()> {
     match call {
-        question::SLOT_MAP..=question::COMPRESSED_READ => digits::lend(rt, call, line),
-        question::PICH_Q => digits::q(rt, line),
-        question::AICH_MAP..=question::STTD_VALUES => values::lend(rt, call, line),
-        question::AICH_COMBINE => values::lend_results(rt, line),
-        question::SAMPLE => samples::take(rt, line),
-        question::HSPDSCH_MAP..=question::HSPDSCH_READ => subframes::lend(rt, call, line),
-        question::DESK_SERVE => access::serve(rt, line),
-        question::DESK_TO_AICH => access::to_aich(rt, line),
-        question::DESK_TO_MESSAGE => access::to_message(rt, line),
-        question::WAKE_RUN..=question::WAKE_STEP => wakes::ask(rt, call, line),
-        question::BANK_EMPTY..=question::BANK_FETCH => banks::lend(rt, call, line),
-        question::BANK_LENGTH => banks::length(rt, line),
-        question::BANK_ROOM => banks::room(rt, line),
-        question::SLOT_LENGTHS..=question::HSPDSCH_LENGTHS => told::of(rt, call, line),
-        question::COMPRESSED_LENGTHS => told::of_compressed(rt, line),
-        _ => answer::text(rt, b" -> no such call"),
+        Call::One(call) => digits::lend_one(rt, call, line),
+        Call::Two(call) => digits::lend_two(rt, call, line),
+        Call::Three(call) => digits::lend_three(rt, call, line),
+        Call::PichQ => digits::q(rt, line),
+        Call::Values(call) => values::lend(rt, call, line),
+        Call::AichCombine => values::lend_results(rt, line),
+        Call::Sample => samples::take(rt, line),
+        Call::Job => jobs::lend(rt, question::run(line, 1)),
+        Call::HspdschMap => subframes::map(rt, line),
+        Call::HspdschRead => subframes::read(rt, line),
+        Call::DeskServe => access::serve(rt, line),
+        Call::DeskToAich => access::to_aich(rt, line),
+        Call::DeskToMessage => access::to_message(rt, line),
+        Call::WakeRun => wakes::run_frames(rt, line),
+        Call::WakeStep => wakes::step(rt, line),
+        Call::Bank(call) => banks::lend(rt, call, line),
+        Call::BankLength => banks::length(rt, line),
+        Call::BankRoom => banks::room(rt, line),
+        Call::Lengths(call) => told::of(rt, call, line),
+        Call::CompressedLengths => told::of_compressed(rt, line),
     }
 }
 
 // The line of a question is ended by its answer, but what a job prints comes on lines of its own.
 fn answered(rt: &impl Print, line: &[u8]) -> io::Result<()> {
-    let call = question::call(line);
     answer::text(rt, line)?;
-    if call == question::JOB {
-        answer::put(rt, b'\n')?;
-        jobs::lend(rt, question::run(line, 1))
-    } else {
-        ask(rt, call, line)?;
-        answer::put(rt, b'\n')
+    let call = question::named(line);
+    match call {
+        Some(call) => ask(rt, call, line)?,
+        None => answer::text(rt, b" -> no such call")?,
     }
+    if matches!(call, Some(Call::Job)) {
+        return Ok(());
+    }
+    answer::put(rt, b'\n')
 }
 
 fn questions(rt: &impl Print, text: &[u8]) -> io::Result<()> {
-    let lines = question::count(text, b'\n');
-    let mut k = 0;
-    while k < lines {
+    for k in 0..question::count(text, b'\n') {
         answered(rt, question::piece(text, b'\n', k))?;
-        k += 1;
     }
     Ok(())
 }
 
 // Answers each line of a text, once the letters of its digits are the digits themselves.
 fn decode(rt: &impl Print, text: &mut [u8]) -> io::Result<()> {
-    let mut i = 0;
-    while i < text.len() {
+    for i in 0..text.len() {
         text[i] = question::digit(text[i]);
-        i += 1;
     }
     questions(rt, text)
 }

@@ -1,8 +1,14 @@
 // Samples. A level and each part of a sample are told by their bits.
 use crate::question::{number, run, signed};
 use crate::{answer, question};
-use sample::Setting;
+use sample::{Sample, Setting};
 use std::io;
+
+// What stands for the sample where the call refuses.
+const NOTHING: Sample = Sample {
+    inphase: 0.0,
+    quadrature: 0.0,
+};
 
 // The level of a pattern, which has no sign; NaN from infinity's on.
 fn level(setting: &[u8], k: usize) -> f32 {
@@ -31,8 +37,8 @@ pub(crate) fn take(rt: &impl Print, line: &[u8]) -> io::Result<()> {
         setting(run(line, 2)),
         number(line, 3),
     );
-    let sample = sampled.sample;
-    answer::verdict(rt, sampled.verdict)?;
+    answer::told(rt, sampled.map(|_| ()))?;
+    let sample = sampled.unwrap_or(NOTHING);
     answer::text(rt, b" sample=")?;
     answer::float(rt, sample.inphase)?;
     answer::put(rt, b',')?;

@@ -1,10 +1,8 @@
-// The calls of the uplink.
+// The calls of the uplink's control channel.
 use crate::question::{number, run};
-use crate::{answer, question};
-use run::Verdict;
-use std::io;
+use run::Refusal;
 
-fn map(line: &[u8], out: &mut [u8]) -> Verdict {
+pub(crate) fn map(line: &[u8], out: &mut [u8]) -> Result<(), Refusal> {
     dpcch_map::map(
         number(line, 1),
         number(line, 2),
@@ -15,7 +13,7 @@ fn map(line: &[u8], out: &mut [u8]) -> Verdict {
     )
 }
 
-fn frame_map(line: &[u8], out: &mut [u8]) -> Verdict {
+pub(crate) fn frame_map(line: &[u8], out: &mut [u8]) -> Result<(), Refusal> {
     dpcch_frame_map::map(
         number(line, 1),
         run(line, 3),
@@ -25,46 +23,15 @@ fn frame_map(line: &[u8], out: &mut [u8]) -> Verdict {
     )
 }
 
-// A call of the DPDCH: a format, a run that is given and one that is lent.
-fn carry(call: usize, format: usize, given: &[u8], out: &mut [u8]) -> Verdict {
-    match call {
-        question::DPDCH_MAP => dpdch::map(format, given, out),
-        question::DPDCH_READ => dpdch::read(format, given, out),
-        question::DPDCH_FRAME_MAP => dpdch::frame_map(format, given, out),
-        _ => dpdch::frame_read(format, given, out),
-    }
-}
-
-// A call that is lent one run.
-pub(crate) fn write_one(call: usize, line: &[u8], out: &mut [u8]) -> Verdict {
-    match call {
-        question::DPCCH_MAP => map(line, out),
-        question::DPCCH_FRAME_MAP => frame_map(line, out),
-        _ => carry(call, number(line, 1), run(line, 2), out),
-    }
-}
-
-pub(crate) fn read(
-    rt: &impl Print,
-    line: &[u8],
-    tfci: &mut [u8],
-    fbi: &mut [u8],
-) -> io::Result<()> {
-    let command = dpcch_read::read(number(line, 1), number(line, 2), run(line, 3), tfci, fbi);
-    answer::verdict(rt, command.verdict)?;
-    answer::text(rt, b" TPC=")?;
-    answer::number(rt, command.tpc)
+pub(crate) fn read(line: &[u8], tfci: &mut [u8], fbi: &mut [u8]) -> Result<usize, Refusal> {
+    dpcch_read::read(number(line, 1), number(line, 2), run(line, 3), tfci, fbi)
 }
 
 pub(crate) fn frame_read(
-    rt: &impl Print,
     line: &[u8],
     commands: &mut [u8],
     tfci: &mut [u8],
     fbi: &mut [u8],
-) -> io::Result<()> {
-    answer::verdict(
-        rt,
-        dpcch_frame_read::read(number(line, 1), run(line, 2), tfci, fbi, commands),
-    )
+) -> Result<(), Refusal> {
+    dpcch_frame_read::read(number(line, 1), run(line, 2), tfci, fbi, commands)
 }

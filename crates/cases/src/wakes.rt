@@ -1,12 +1,12 @@
 // Wake simulation: Np, PI and the three numbers of the tally stand before the frames. A step is asked as a run is.
-use crate::question::{number, word};
-use crate::{answer, question};
+use crate::answer;
+use crate::question::{number, run, word};
+use run::Refusal;
 use std::io;
-use wake::Simulated;
+use wake::Tally;
 
-fn tell(rt: &impl Print, simulated: Simulated) -> io::Result<()> {
-    let tally = simulated.tally;
-    answer::verdict(rt, simulated.verdict)?;
+fn tell(rt: &impl Print, told: Result<(), Refusal>, tally: Tally) -> io::Result<()> {
+    answer::told(rt, told)?;
     answer::text(rt, b" read=")?;
     answer::number(rt, tally.read as usize)?;
     answer::text(rt, b" woke=")?;
@@ -15,16 +15,22 @@ fn tell(rt: &impl Print, simulated: Simulated) -> io::Result<()> {
     answer::number(rt, tally.next as usize)
 }
 
-pub(crate) fn ask(rt: &impl Print, call: usize, line: &[u8]) -> io::Result<()> {
-    let np = number(line, 1);
-    let pi = number(line, 2);
-    let read = word(line, 3);
-    let woke = word(line, 4);
-    let next = word(line, 5);
-    let frames = question::run(line, 6);
-    if call == question::WAKE_RUN {
-        tell(rt, wake_run::run(np, pi, frames, read, woke, next))
-    } else {
-        tell(rt, wake::frame(np, pi, frames, read, woke, next))
+fn tally(line: &[u8]) -> Tally {
+    Tally {
+        read: word(line, 3),
+        woke: word(line, 4),
+        next: word(line, 5),
     }
+}
+
+pub(crate) fn run_frames(rt: &impl Print, line: &[u8]) -> io::Result<()> {
+    let mut tally = tally(line);
+    let told = wake_run::run(number(line, 1), number(line, 2), run(line, 6), &mut tally);
+    tell(rt, told, tally)
+}
+
+pub(crate) fn step(rt: &impl Print, line: &[u8]) -> io::Result<()> {
+    let mut tally = tally(line);
+    let told = wake::frame(number(line, 1), number(line, 2), run(line, 6), &mut tally);
+    tell(rt, told, tally)
 }

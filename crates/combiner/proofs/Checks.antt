@@ -1,23 +1,22 @@
 -- What is known where no check refused, and how the call ends.
 -- Assumes nothing.
-use mathlib.Core.Path.{◌≡◌, sym, ◌∙◌}
+use mathlib.Core.Path.{◌≡◌}
 use mathlib.Core.Bool.{true}
 use mathlib.Core.List.{List}
 use Prim.Native.Nat.{ℕ}
 use native.Mathlib.Omega.{arith}
 use borrow.Author.Tests.{eqb-true, eq-eqb}
-use lib.ListN.{length, get_or}
+use lib.ListN.{get_or}
 use lib.IntN.{ℤ, pos, negsuc}
 use Rattle.run.specs.First.{Every}
 use Rattle.run.specs.Verdicts.{done}
-use Rattle.run.proofs.Chain.{or_else_done, unless_done, each_done, or_else_next, or_else_refused, or_else_pass, unless_pass, each_pass, leaves_done, leaves_refused}
+use Rattle.run.proofs.Chain.{or_else_done, unless_done, each_done, or_else_pass, unless_pass, each_pass}
 use Rattle.run.proofs.Ranges.{range_parts, range_holds}
 use Rattle.whole.specs.Bound.{Bounded}
 use Rattle.whole.proofs.Bound.{b_range, range_low, range_high}
 use Rattle.correlator.specs.declared.Complex.{Complex}
-use Rattle.correlator.specs.Rule.{numbers_of}
 use Rattle.correlator.specs.Method.{Small, Parts}
-use Rattle.combiner.specs.Outcome.{gain_in, part_in, some_gain, combine_head, combine_body, combine_verdict, Combine}
+use Rattle.combiner.specs.Outcome.{gain_in, part_in, some_gain, combine_head, combine_body}
 
 pub gain_small : (z : ℤ) → gain_in z ≡ true → Bounded 4096 z
 gain_small z e = let p = range_parts (negsuc 4095) (pos 4096) z e in b_range 4095 z p.0 p.1
@@ -84,25 +83,3 @@ body_passes h1 h2 received t =
     (or_else_pass (unless_pass 11 3 (small_gain h2.im t.h2_ok.im_in))
     (or_else_pass (each_pass 4 11 _ _ t.parts_ok)
     (unless_pass 12 0 t.gains_ok)))))
-
--- ---- how the call ends
-module _ (h1 h2 : Complex) (received results : List ℤ) where
-  pub ends_at_head : ((combine_head (length received) (length results)).number ≡ 0 → ⊥)
-      → Combine h1 h2 received results (combine_head (length received) (length results)) results
-  unfolding combine_verdict
-  ends_at_head h =
-      let is : combine_verdict h1 h2 received (length results) ≡ combine_head (length received) (length results) = or_else_refused _ _ h in
-      record { verdict_is = sym is; results_is = sym (leaves_refused _ _ _ (rw is h)) }
-
-  module _ (head : (combine_head (length received) (length results)).number ≡ 0) where
-    verdict_body : combine_verdict h1 h2 received (length results) ≡ combine_body h1 h2 received
-    unfolding combine_verdict
-    verdict_body = or_else_next _ _ head
-
-    pub ends_at_body : ((combine_body h1 h2 received).number ≡ 0 → ⊥) → Combine h1 h2 received results (combine_body h1 h2 received) results
-    ends_at_body h = record { verdict_is = sym verdict_body; results_is = sym (leaves_refused _ _ _ (rw verdict_body h)) }
-
-    pub ends_done : (combine_body h1 h2 received).number ≡ 0 → (after : List ℤ) → after ≡ numbers_of h1 h2 received
-        → Combine h1 h2 received results (combine_body h1 h2 received) after
-    ends_done h after e =
-        record { verdict_is = sym verdict_body; results_is = e ∙ sym (leaves_done (combine_verdict h1 h2 received (length results)) _ results (rw verdict_body h)) }

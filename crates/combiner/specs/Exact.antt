@@ -2,7 +2,7 @@
 -- letters. Demand 3 is in Demand3.antt.
 -- Assumes nothing.
 use Rattle.std.specs.Prelude.{ℕ, ◌≡◌, List, get_or, ℤ, pos, neg_ℤ, ◌*ℤ◌}
-use Rattle.run.specs.declared.Verdict.{Verdict}
+use Rattle.run.specs.Verdict.{Verdict}
 use Rattle.run.specs.Table.{tab}
 use Rattle.run.specs.Verdicts.{done, Narrow}
 use Rattle.whole.specs.Sum.{sum}

@@ -1,7 +1,7 @@
 -- docs/RULES.md, 'Combiner': what the call answers and leaves in the lent run, for all inputs.
 -- Assumes nothing.
 use Rattle.std.specs.Prelude.{ℕ, ◌≡◌, Bool, not, ◌&&◌, List, length, eqb, ℤ, pos, negsuc}
-use Rattle.run.specs.declared.Verdict.{Verdict}
+use Rattle.run.specs.Verdict.{Verdict}
 use Rattle.run.specs.Ranges.{between, in_range}
 use Rattle.run.specs.Refusals.{length_refused, range_refused, gains_refused}
 use Rattle.run.specs.Verdicts.{or_else, unless, each, leaves}

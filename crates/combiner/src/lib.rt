@@ -2,11 +2,15 @@
 #![tactic(auto)]
 
 ghost use Rattle.std.specs.Prelude.{◌≡◌, length};
+ghost use Rattle.run.specs.Answers.{verdict_of};
+ghost use Rattle.run.specs.Refusals.{range_refused};
+ghost use Rattle.run.specs.Verdicts.{each};
 ghost use Rattle.correlator.specs.Complexes.{cx};
-ghost use Rattle.combiner.specs.Outcome.{gain_in, some_gain, combine_head, combine_body, Combine};
+ghost use Rattle.correlator.specs.Method.{Small};
+ghost use Rattle.combiner.specs.Outcome.{gain_in, part_in, is_zero, some_gain, combine_head, combine_body, Combine};
 
-use correlator::Complex;
-use run::{Verdict, or_else, refusal, unless};
+use correlator::{Complex, Gain};
+use run::{Reason, Refusal, require};
 
 // A gain part is in range.
 fn gain_in(part: i64) -> bool
@@ -15,102 +19,74 @@ fn gain_in(part: i64) -> bool
     range::between(part, -4096, 4096)
 }
 
+fn is_zero(h: Complex) -> bool
+    ensures { result ≡ is_zero h }
+{
+    h.re == 0 && h.im == 0
+}
+
 // Not both gains are zero.
 fn some_gain(h1: Complex, h2: Complex) -> bool
     ensures { result ≡ some_gain h1 h2 }
 {
-    if h1.re != 0 {
-        return true;
-    }
-    if h1.im != 0 {
-        return true;
-    }
-    if h2.re != 0 {
-        return true;
-    }
-    h2.im != 0
+    !(is_zero(h1) && is_zero(h2))
 }
 
-fn combine_head(received_length: usize, results_length: usize) -> Verdict
-    ensures { result ≡ combine_head received_length results_length }
+fn check_head(received_length: usize, results_length: usize) -> Result<(), Refusal>
+    ensures { verdict_of result ≡ combine_head received_length results_length }
 {
-    let second = unless(results_length == 16, refusal::LENGTH, 1);
-    or_else(unless(received_length == 32, refusal::LENGTH, 0), second)
+    require(received_length == 32, Reason::Length, 0)?;
+    require(results_length == 16, Reason::Length, 1)
 }
 
-fn combine_body(h1: Complex, h2: Complex, received: &[i32]) -> Verdict
+// The places of the received parts stand behind those of the gains.
+fn check_parts(received: &[i32]) -> Result<(), Refusal>
     requires { length received.now ≡ 32 }
-    ensures { result ≡ combine_body h1 h2 received.now }
+    ensures { verdict_of result ≡ each 4 range_refused (part_in received.now) 32 }
 {
-    let i = range::first_outside(received, -1048576, 1048576);
-    let zero = unless(some_gain(h1, h2), refusal::GAINS, 0);
-    let parts = or_else(unless(32 <= i, refusal::RANGE, 4 + i), zero);
-    let fourth = or_else(unless(gain_in(h2.im), refusal::RANGE, 3), parts);
-    let third = or_else(unless(gain_in(h2.re), refusal::RANGE, 2), fourth);
-    let second = or_else(unless(gain_in(h1.im), refusal::RANGE, 1), third);
-    or_else(unless(gain_in(h1.re), refusal::RANGE, 0), second)
-}
-
-// The 32 parts as an array, which says by its type how many they are.
-fn parts_of(received: &[i32]) -> [i32; 32]
-    requires { length received.now ≡ 32 }
-    ensures { result ≡ received.now }
-{
-    let mut parts = [0i32; 32];
-    let mut i = 0;
-    while i < 32 {
-        parts[i] = received[i];
-        i += 1;
+    match range::outside(received, -1048576, 1048576) {
+        None => Ok(()),
+        Some(i) => require(false, Reason::Range, 4 + i),
     }
-    parts
 }
 
-fn write_results(numbers: &[i64], results: &mut [i64])
-    requires { (length numbers.now ≡ 16) × (length results.old ≡ 16) }
-    ensures { results.new ≡ numbers.now }
+fn check_body(h1: Complex, h2: Complex, received: &[i32]) -> Result<(), Refusal>
+    requires { length received.now ≡ 32 }
+    ensures { verdict_of result ≡ combine_body h1 h2 received.now }
 {
-    let mut s = 0;
-    while s < 16 {
-        results[s] = numbers[s];
-        s += 1;
+    require(gain_in(h1.re), Reason::Range, 0)?;
+    require(gain_in(h1.im), Reason::Range, 1)?;
+    require(gain_in(h2.re), Reason::Range, 2)?;
+    require(gain_in(h2.im), Reason::Range, 3)?;
+    check_parts(received)?;
+    require(some_gain(h1, h2), Reason::Gains, 0)
+}
+
+// A gain in range, in 16 bits.
+fn narrow(h: Complex) -> Gain
+    requires { Small 4096 h }
+    ensures { cx result.re result.im ≡ h }
+{
+    Gain {
+        re: h.re as i16,
+        im: h.im as i16,
     }
 }
 
 // The number of each signature, or the refusal and the results as they were.
 pub fn combine(
-    h1_re: i64,
-    h1_im: i64,
-    h2_re: i64,
-    h2_im: i64,
+    h1: Complex,
+    h2: Complex,
     received: &[i32],
     results: &mut [i64],
-) -> Verdict
-    ensures { Combine (cx h1_re h1_im) (cx h2_re h2_im) received.now results.old result results.new }
+) -> Result<(), Refusal>
+    ensures { Combine h1 h2 received.now results.old (verdict_of result) results.new }
 {
-    let head = combine_head(received.len(), results.len());
-    if head.number != 0 {
-        return head;
-    }
-    let h1 = Complex {
-        re: h1_re,
-        im: h1_im,
-    };
-    let h2 = Complex {
-        re: h2_re,
-        im: h2_im,
-    };
-    let body = combine_body(h1, h2, received);
-    if body.number != 0 {
-        return body;
-    }
-    let parts = parts_of(received);
-    let numbers = correlator::numbers(
-        h1_re as i16,
-        h1_im as i16,
-        h2_re as i16,
-        h2_im as i16,
-        parts,
-    );
-    write_results(&numbers, results);
-    body
+    check_head(received.len(), results.len())?;
+    check_body(h1, h2, received)?;
+    let mut parts = [0i32; 32];
+    parts.copy_from_slice(received);
+    let numbers = correlator::numbers(narrow(h1), narrow(h2), parts);
+    results.copy_from_slice(&numbers);
+    Ok(())
 }

@@ -1,20 +1,20 @@
 -- What is known of a compressed frame's row, gap, lengths, fields and slots where no check refuses them.
 -- Assumes nothing.
 use mathlib.Core.Path.{◌≡◌, refl, sym, ap, ◌∙◌}
-use mathlib.Core.Bool.{Bool, true, false}
-use mathlib.Core.List.{List, [], ◌∷◌}
+use mathlib.Core.Bool.{Bool, true, false, not}
+use mathlib.Core.List.{List}
 use Prim.Native.Nat.{ℕ, ◌+◌, ◌*◌, ◌≤◌, ◌<◌}
 use native.Mathlib.Omega.{arith}
 use borrow.Author.Tests.{eqb-true, eq-eqb, ne_eqb, ltb-true, lt-ltb, leb-true}
 use lib.Dec.{eqb, leb, ltb, lit<}
 use lib.ListN.{length, get_or, replicate, length-replicate, get_or-replicate}
 use lib.Seq.{ext_get_or}
-use Rattle.run.specs.declared.Verdict.{Verdict}
+use Rattle.run.specs.Verdict.{Verdict}
 use Rattle.run.specs.Digits.{dtx}
 use Rattle.run.specs.First.{Every, at_most, is_at}
 use Rattle.run.specs.Parts.{part}
 use Rattle.run.specs.Refusals.{digit_refused, frame_refused}
-use Rattle.run.specs.Verdicts.{done, or_else, unless, each, lengths, Narrow}
+use Rattle.run.specs.Verdicts.{done, or_else, each, Narrow}
 use Rattle.run.proofs.Bools.{and_right}
 use Rattle.run.proofs.Chain.{or_else_done, unless_done, or_else_pass, unless_pass, each_done, each_pass, AllRight, lengths_done, lengths_pass, chain_done, check_narrow, lengths_narrow, or_else_narrow, each_narrow}
 use Rattle.run.proofs.Each.{each_same}
@@ -201,24 +201,9 @@ accepted_bits f row first missing xs data_length tfci_length commands_length a =
           (part_length (number_of first missing i) 15 f.slot xs l a.room.frame_ok);
     }
 
--- runs that all have their lengths are as good as none
-pub none_asked : (right : List Bool) → AllRight right → lengths right ≡ lengths []
-none_asked right h = lengths_pass right h ∙ sym (lengths_pass [] tt)
-
--- the checks of row and gap, test by test
-module _ (f : Format) (first missing : ℕ) (right : List Bool) where
-  pub no_row : f.kind ≡ 0 → unless false 1 0 ≡ gap_head f first missing right
-  unfolding gap_head or_else unless
-  no_row e = rw e
-
-  pub no_gap : (f.kind ≡ 0 → ⊥) → gap_stands f first missing ≡ false → unless false 27 0 ≡ gap_head f first missing right
-  unfolding gap_head or_else unless
-  no_gap h e = rw (lt-ltb 0 f.kind (omega arith), e)
-
-  pub row_and_gap : (f.kind ≡ 0 → ⊥) → gap_stands f first missing ≡ true → lengths right ≡ gap_head f first missing right
-  unfolding gap_head or_else unless
-  row_and_gap h e = rw (lt-ltb 0 f.kind (omega arith), e)
-
-pub gap_alone : (f : Format) (first missing : ℕ) → gap_head f first missing (true ∷ true ∷ true ∷ true ∷ []) ≡ gap_head f first missing []
-unfolding gap_head
-gap_alone f first missing = rw (none_asked (true ∷ true ∷ true ∷ true ∷ []) (refl, (refl, (refl, (refl, tt)))))
+-- a row that is not a normal one: its kind is not 0
+pub some_kind : (f : Format) → not (eqb f.kind 0) ≡ ltb 0 f.kind
+some_kind f = sides f.kind
+  where
+    sides : (k : ℕ) → not (eqb k 0) ≡ ltb 0 k
+    sides k = grind arith

@@ -1,15 +1,14 @@
 -- A gap of missing slots: the transmitted slots and the slots outside it are one to one.
 -- Assumes nothing.
-use mathlib.Core.Path.{◌≡◌, refl, sym, ◌∙◌}
-use mathlib.Core.Bool.{Bool, true, false, not, ◌&&◌, true≢false}
+use mathlib.Core.Path.{◌≡◌, refl, sym}
+use mathlib.Core.Bool.{Bool, true, false, not, true≢false}
 use Prim.Native.Nat.{ℕ, ◌+◌, ◌-◌, ◌*◌, ◌≤◌, ◌<◌}
 use native.Mathlib.Nat.{mul-le-mul_right}
 use native.Mathlib.Omega.{arith}
 use borrow.Author.Tests.{ltb-true, ltb-false, lt-ltb, le-ltb, le-leb, lt-leb}
-use lib.Dec.{leb, ltb}
+use lib.Dec.{ltb}
 use Rattle.run.proofs.Frames.{Plan}
-use Rattle.dpch.specs.declared.Format.{Format}
-use Rattle.compressed.specs.Rule.{is_missing, transmitted, number_of, turn_of, gap_stands}
+use Rattle.compressed.specs.Rule.{is_missing, transmitted, number_of, turn_of}
 use Rattle.compressed.specs.Exact.{OneToOne}
 
 -- before a place or not
@@ -19,12 +18,6 @@ sides {X} a b p q = side (ltb a b) refl
     side : (t : Bool) → ltb a b ≡ t → X
     side true e = p (ltb-true a b e)
     side false e = q (ltb-false a b e)
-
--- the last of three tests fails
-last_false : (a b : Bool) → (a && (b && false)) ≡ false
-last_false true true = refl
-last_false true false = refl
-last_false false b = refl
 
 module _ (first missing : ℕ) where
   pub number_before : (i : ℕ) → i < first → number_of first missing i ≡ i
@@ -43,9 +36,6 @@ module _ (first missing : ℕ) where
   unfolding turn_of
   turn_behind k h = rw (le-ltb k first h)
 
-  pub turn_none : (k : ℕ) → first ≤ k → k < missing → 0 ≡ turn_of first missing k
-  turn_none k h l = let e = turn_behind k h in omega arith
-
   pub sent_before : (k : ℕ) → k < first → is_missing first missing k ≡ false
   unfolding is_missing
   sent_before k h = rw (lt-leb first k h)
@@ -62,35 +52,6 @@ module _ (first missing : ℕ) where
   -- the number of a transmitted slot, by where it stands
   pub numbered : {X : Type 0} (i : ℕ) → (i < first → number_of first missing i ≡ i → X) → (first ≤ i → number_of first missing i ≡ i + missing → X) → X
   numbered i p q = sides i first (λ h. p h (number_before i h)) (λ h. q h (number_behind i h))
-
-  -- .. and whether slot k is missing, by its distance from the first one
-  pub missing_by : (k : ℕ) → first ≤ k → ltb (k - first) missing ≡ is_missing first missing k
-  unfolding is_missing
-  missing_by k h =
-      rw (le-leb first k h)
-      (sides k (first + missing) (λ l. rw (lt-ltb k (first + missing) l) (lt-ltb (k - first) missing (omega arith)))
-      (λ l. rw (le-ltb k (first + missing) l) (le-ltb (k - first) missing (omega arith))))
-
-  -- whether a row permits the gap, test by test
-  module _ (f : Format) where
-    pub too_few : transmitted missing < f.fewest → false ≡ gap_stands f first missing
-    unfolding gap_stands
-    too_few h = rw (lt-leb f.fewest (15 - missing) h)
-
-    pub too_many : f.fewest ≤ transmitted missing → f.most < transmitted missing → false ≡ gap_stands f first missing
-    unfolding gap_stands
-    too_many l h = rw (le-leb f.fewest (15 - missing) l, lt-leb (15 - missing) f.most h)
-
-    pub past_all : 15 < missing → false ≡ gap_stands f first missing
-    unfolding gap_stands
-    past_all h = rw (lt-leb (first + missing) 15 (omega arith)) (sym (last_false (leb f.fewest (15 - missing)) (leb (15 - missing) f.most)))
-
-    pub ends_by : f.fewest ≤ transmitted missing → transmitted missing ≤ f.most → missing ≤ 15 → leb first (transmitted missing) ≡ gap_stands f first missing
-    unfolding gap_stands
-    ends_by l m h =
-        rw (le-leb f.fewest (15 - missing) l, le-leb (15 - missing) f.most m)
-        (sides (15 - missing) first (λ n. rw (lt-leb first (15 - missing) n) (refl ∙ sym (lt-leb (first + missing) 15 (omega arith))))
-        (λ n. rw (le-leb first (15 - missing) n) (sym (le-leb (first + missing) 15 (omega arith)))))
 
   module _ (ends : first + missing ≤ 15) where
     pub one_to_one : OneToOne first missing

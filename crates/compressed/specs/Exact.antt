@@ -1,7 +1,7 @@
 -- Demand 2 for a compressed frame, for every gap (docs/RULES.md, 'The demands' and 'Compressed frames'). Each statement is proved in proofs/Exact.antt under its name in small letters.
 -- Assumes nothing.
 use Rattle.std.specs.Prelude.{ℕ, ◌+◌, ◌*◌, ◌<◌, ◌≤◌, ◌≡◌, true, false, List, ◌↔◌, length, get_or, replicate}
-use Rattle.run.specs.declared.Verdict.{Verdict}
+use Rattle.run.specs.Verdict.{Verdict}
 use Rattle.run.specs.Digits.{dtx}
 use Rattle.run.specs.Parts.{part}
 use Rattle.run.specs.Verdicts.{done, Narrow}

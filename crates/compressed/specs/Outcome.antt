@@ -1,7 +1,7 @@
 -- docs/RULES.md, 'Compressed frames': what each call on a compressed frame answers and leaves in each lent run, for all inputs.
 -- Assumes nothing.
 use Rattle.std.specs.Prelude.{ℕ, ◌*◌, ◌≡◌, Bool, cond, List, [], ◌∷◌, length, eqb, ltb}
-use Rattle.run.specs.declared.Verdict.{Verdict}
+use Rattle.run.specs.Verdict.{Verdict}
 use Rattle.run.specs.Digits.{dtx}
 use Rattle.run.specs.First.{at_most, is_at}
 use Rattle.run.specs.Parts.{part}

@@ -2,85 +2,68 @@
 // docs/RULES.md, 'Compressed frames'; TS 25.211, 5.3.2.
 #![tactic(auto)]
 
-ghost use Rattle.std.specs.Prelude.{◌≡◌, [], ◌∷◌};
+ghost use Rattle.std.specs.Prelude.{◌≡◌};
+ghost use Rattle.run.specs.Answers.{verdict_of};
 ghost use Rattle.dpch.specs.Compressed.{format_in};
 ghost use Rattle.compressed.specs.Rule.{is_missing, transmitted, turn_of, gap_stands};
 ghost use Rattle.compressed.specs.Outcome.{gap_head, map_head, read_head};
 
 use dpch::Format;
-use run::{Verdict, lengths, refusal, unless};
+use run::{Reason, Refusal, lengths_are, require};
 
 // How many of a frame's slots are transmitted.
 pub fn transmitted(missing: usize) -> usize
     ensures { result ≡ transmitted missing }
 {
-    if missing <= 15 { 15 - missing } else { 0 }
+    15usize.saturating_sub(missing)
 }
 
 // Whether slot k is missing. Nothing is added: the numbers may be huge.
+#[tactic(auto, unfolding(crate::specs::Rule::is_missing))]
 pub fn is_missing(first: usize, missing: usize, k: usize) -> bool
     ensures { result ≡ is_missing first missing k }
 {
-    if k < first {
-        return false;
-    }
-    k - first < missing
+    first <= k && k - first < missing
 }
 
 // Which of the transmitted slots slot k is.
+#[tactic(auto, unfolding(crate::specs::Rule::turn_of))]
 pub fn turn_of(first: usize, missing: usize, k: usize) -> usize
     ensures { result ≡ turn_of first missing k }
 {
     if k < first {
-        return k;
+        k
+    } else {
+        k.saturating_sub(missing)
     }
-    if k < missing {
-        return 0;
-    }
-    k - missing
 }
 
 // Whether the gap leaves as many slots as the row permits, and ends by slot 14.
+#[tactic(auto, unfolding(crate::specs::Rule::gap_stands))]
 fn gap_stands(f: Format, first: usize, missing: usize) -> bool
     ensures { result ≡ gap_stands f first missing }
 {
-    if 15 < missing {
-        return false;
-    }
     let sent = transmitted(missing);
-    if sent < f.fewest {
-        return false;
-    }
-    if f.most < sent {
-        return false;
-    }
-    first <= sent
+    f.fewest <= sent && sent <= f.most && first.saturating_add(missing) <= 15
 }
 
-// The checks with which both calls begin: the row, the gap, then the lengths of four runs. What is refused is told at once: past the row the compiler knows that it is of kind A
+// The checks with which both calls begin: the row, the gap, then the lengths of the call's runs. What is refused is told at once: past the row the compiler knows that it is of kind A
 // or B.
-pub fn gap_head(
+pub fn check_gap_head(
     f: Format,
     first: usize,
     missing: usize,
-    a: bool,
-    b: bool,
-    c: bool,
-    d: bool,
-) -> Verdict
-    ensures { result ≡ gap_head f first missing (a ∷ b ∷ c ∷ d ∷ []) }
+    right: &[bool],
+) -> Result<(), Refusal>
+    ensures { verdict_of result ≡ gap_head f first missing right.now }
 {
-    if f.kind == 0 {
-        return unless(false, refusal::FORMAT, 0);
-    }
-    if gap_stands(f, first, missing) {
-        return lengths(a, b, c, d);
-    }
-    unless(false, refusal::GAP, 0)
+    require(f.kind != 0, Reason::Format, 0)?;
+    require(gap_stands(f, first, missing), Reason::Gap, 0)?;
+    lengths_are(right)
 }
 
 // The checks of row, gap and lengths before a frame is mapped.
-pub fn map_head(
+pub fn check_map_head(
     format: usize,
     kind: usize,
     first: usize,
@@ -89,24 +72,26 @@ pub fn map_head(
     tfci_length: usize,
     out_length: usize,
     commands_length: usize,
-) -> Verdict
-    ensures { result ≡ map_head (format_in kind format) first missing data_length tfci_length out_length commands_length }
+) -> Result<(), Refusal>
+    ensures { verdict_of result ≡ map_head (format_in kind format) first missing data_length tfci_length out_length commands_length }
 {
     let s = slot::row_sizes(kind, format);
     let n = transmitted(missing);
-    gap_head(
+    check_gap_head(
         dpch_rows::format_in(kind, format),
         first,
         missing,
-        data_length == n * s.data,
-        tfci_length == n * s.tfci,
-        out_length == 15 * s.slot,
-        commands_length == n,
+        &[
+            data_length == n * s.data,
+            tfci_length == n * s.tfci,
+            out_length == 15 * s.slot,
+            commands_length == n,
+        ],
     )
 }
 
 // .. before one is read.
-pub fn read_head(
+pub fn check_read_head(
     format: usize,
     kind: usize,
     first: usize,
@@ -115,18 +100,20 @@ pub fn read_head(
     data_length: usize,
     tfci_length: usize,
     commands_length: usize,
-) -> Verdict
-    ensures { result ≡ read_head (format_in kind format) first missing frame_length data_length tfci_length commands_length }
+) -> Result<(), Refusal>
+    ensures { verdict_of result ≡ read_head (format_in kind format) first missing frame_length data_length tfci_length commands_length }
 {
     let s = slot::row_sizes(kind, format);
     let n = transmitted(missing);
-    gap_head(
+    check_gap_head(
         dpch_rows::format_in(kind, format),
         first,
         missing,
-        frame_length == 15 * s.slot,
-        data_length == n * s.data,
-        tfci_length == n * s.tfci,
-        commands_length == n,
+        &[
+            frame_length == 15 * s.slot,
+            data_length == n * s.data,
+            tfci_length == n * s.tfci,
+            commands_length == n,
+        ],
     )
 }

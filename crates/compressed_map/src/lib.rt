@@ -2,14 +2,16 @@
 #![tactic(auto)]
 
 ghost use Rattle.std.specs.Prelude.{◌≡◌};
+ghost use Rattle.run.specs.Answers.{verdict_of};
 ghost use Rattle.dpch.specs.Compressed.{format_in};
 ghost use Rattle.compressed.specs.Outcome.{map_verdict, Map};
 
-use run::Verdict;
+use run::Refusal;
 
 mod slots;
 
-fn map_verdict(
+// The checks in their order.
+fn check(
     format: usize,
     kind: usize,
     first: usize,
@@ -18,10 +20,10 @@ fn map_verdict(
     tfci: &[u8],
     out_length: usize,
     commands: &[u8],
-) -> Verdict
-    ensures { result ≡ map_verdict (format_in kind format) first missing «data».now tfci.now out_length commands.now }
+) -> Result<(), Refusal>
+    ensures { verdict_of result ≡ map_verdict (format_in kind format) first missing «data».now tfci.now out_length commands.now }
 {
-    let head = compressed::map_head(
+    compressed::check_map_head(
         format,
         kind,
         first,
@@ -30,10 +32,7 @@ fn map_verdict(
         tfci.len(),
         out_length,
         commands.len(),
-    );
-    if head.number != 0 {
-        return head;
-    }
+    )?;
     slots::check_fields(kind, format, missing, data, tfci, commands)
 }
 
@@ -47,10 +46,10 @@ pub fn map(
     tfci: &[u8],
     out: &mut [u8],
     commands: &[u8],
-) -> Verdict
-    ensures { Map format kind first missing «data».now tfci.now out.old commands.now result out.new }
+) -> Result<(), Refusal>
+    ensures { Map format kind first missing «data».now tfci.now out.old commands.now (verdict_of result) out.new }
 {
-    let verdict = map_verdict(
+    check(
         format,
         kind,
         first,
@@ -59,10 +58,7 @@ pub fn map(
         tfci,
         out.len(),
         commands,
-    );
-    if verdict.number != 0 {
-        return verdict;
-    }
+    )?;
     slots::write(kind, format, first, missing, data, tfci, out, commands);
-    verdict
+    Ok(())
 }

@@ -1,5 +1,6 @@
 // The slots of a compressed frame, one after the other: each transmitted one is lent its own part of every run.
 ghost use Rattle.std.specs.Prelude.{◌≡◌, ◌*◌, ◌<◌, length, get_or};
+ghost use Rattle.run.specs.Answers.{verdict_of};
 ghost use Rattle.run.specs.Parts.{part};
 ghost use Rattle.run.specs.Verdicts.{chain};
 ghost use Rattle.dpch.specs.Compressed.{format_in};
@@ -9,7 +10,7 @@ ghost use Rattle.frame.specs.Outcome.{slot_fields};
 ghost use Rattle.compressed.specs.Rule.{transmitted, slot_at, frame_of};
 ghost use Rattle.compressed.specs.Ready.{Ready, Room, Turn};
 
-use run::{DTX, Verdict};
+use run::{DTX, Refusal};
 use slot::{Sizes, row_sizes};
 
 // The first transmitted slot whose command, TFCI or data is refused.
@@ -20,38 +21,23 @@ pub(crate) fn check_fields(
     data: &[u8],
     tfci: &[u8],
     commands: &[u8],
-) -> Verdict
+) -> Result<(), Refusal>
     requires { Ready (format_in kind format) missing (length «data».now) (length tfci.now) (length commands.now) }
-    ensures { result ≡ chain (transmitted missing) (slot_fields (format_in kind format) «data».now tfci.now commands.now) }
+    ensures { verdict_of result ≡ chain (transmitted missing) (slot_fields (format_in kind format) «data».now tfci.now commands.now) }
 {
     let s = row_sizes(kind, format);
     let n = s.data;
     let m = s.tfci;
     let count = compressed::transmitted(missing);
-    let mut k = 0;
-    while k < count {
+    for k in 0..count {
         let a = k * n;
         let e = a + n;
         let b = k * m;
         let c = b + m;
         let tpc = commands[k] as usize;
-        let verdict = slot_map::fields_verdict(
-            tpc,
-            &data[a..e],
-            &tfci[b..c],
-            k,
-            b as u32,
-            a as u32,
-        );
-        if verdict.number != 0 {
-            return verdict;
-        }
-        k += 1;
+        slot_map::check_fields(tpc, &data[a..e], &tfci[b..c], k, b as u32, a as u32)?;
     }
-    Verdict {
-        number: 0,
-        place: 0,
-    }
+    Ok(())
 }
 
 // A transmitted slot into its part of the frame: of its own number, and of the command and the parts of its turn.
@@ -124,8 +110,7 @@ pub(crate) fn write(
 {
     let s = row_sizes(kind, format);
     let w = s.slot;
-    let mut k = 0;
-    while k < 15 {
+    for k in 0..15 {
         let i = k * w;
         let j = i + w;
         write_slot(
@@ -140,6 +125,5 @@ pub(crate) fn write(
             &mut out[i..j],
             commands,
         );
-        k += 1;
     }
 }

@@ -2,14 +2,16 @@
 #![tactic(auto)]
 
 ghost use Rattle.std.specs.Prelude.{◌≡◌};
+ghost use Rattle.run.specs.Answers.{verdict_of};
 ghost use Rattle.dpch.specs.Compressed.{format_in};
 ghost use Rattle.compressed.specs.Outcome.{read_verdict, Read};
 
-use run::Verdict;
+use run::Refusal;
 
 mod slots;
 
-fn read_verdict(
+// The checks in their order.
+fn check(
     format: usize,
     kind: usize,
     first: usize,
@@ -18,10 +20,10 @@ fn read_verdict(
     data_length: usize,
     tfci_length: usize,
     commands_length: usize,
-) -> Verdict
-    ensures { result ≡ read_verdict (format_in kind format) first missing xs.now data_length tfci_length commands_length }
+) -> Result<(), Refusal>
+    ensures { verdict_of result ≡ read_verdict (format_in kind format) first missing xs.now data_length tfci_length commands_length }
 {
-    let head = compressed::read_head(
+    compressed::check_read_head(
         format,
         kind,
         first,
@@ -30,10 +32,7 @@ fn read_verdict(
         data_length,
         tfci_length,
         commands_length,
-    );
-    if head.number != 0 {
-        return head;
-    }
+    )?;
     slots::check_digits(kind, format, first, missing, xs)
 }
 
@@ -47,10 +46,10 @@ pub fn read(
     data: &mut [u8],
     tfci: &mut [u8],
     commands: &mut [u8],
-) -> Verdict
-    ensures { Read format kind first missing xs.now «data».old tfci.old commands.old result «data».new tfci.new commands.new }
+) -> Result<(), Refusal>
+    ensures { Read format kind first missing xs.now «data».old tfci.old commands.old (verdict_of result) «data».new tfci.new commands.new }
 {
-    let verdict = read_verdict(
+    check(
         format,
         kind,
         first,
@@ -59,10 +58,7 @@ pub fn read(
         data.len(),
         tfci.len(),
         commands.len(),
-    );
-    if verdict.number != 0 {
-        return verdict;
-    }
+    )?;
     slots::take(kind, format, first, missing, xs, data, tfci, commands);
-    verdict
+    Ok(())
 }

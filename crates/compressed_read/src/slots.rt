@@ -1,5 +1,6 @@
 // The slots of a compressed frame, one after the other: each transmitted one is lent its own part of every run.
 ghost use Rattle.std.specs.Prelude.{◌≡◌, cond, ◌+◌, ◌*◌, ◌<◌, ◌≤◌, length};
+ghost use Rattle.run.specs.Answers.{verdict_of};
 ghost use Rattle.run.specs.Verdicts.{chain};
 ghost use Rattle.dpch.specs.Compressed.{format_in};
 ghost use Rattle.slot.specs.Outcome.{part_verdict};
@@ -7,7 +8,7 @@ ghost use Rattle.compressed.specs.Rule.{is_missing, number_of, data_in, tfci_in,
 ghost use Rattle.compressed.specs.Outcome.{silent_verdict, slot_verdict};
 ghost use Rattle.compressed.specs.Ready.{Room, Bits, NoneBelow};
 
-use run::{DTX, Verdict, found, refusal};
+use run::{DTX, Reason, Refusal, refused_at};
 use slot::row_sizes;
 
 // A digit that none of the run is below. A loop that takes no early way out can go many digits at a time.
@@ -15,32 +16,27 @@ fn lowest(s: &[u8]) -> u8
     ensures { NoneBelow result s.now }
 {
     let mut low = 255;
-    let mut i = 0;
-    while i < s.len() {
+    for i in 0..s.len() {
         if s[i] < low {
             low = s[i];
         }
-        i += 1;
     }
     low
 }
 
 // The checks of a missing slot's digits, which count their places from `base`. Where all is silent there is no place to look for.
-fn silent_verdict(xs: &[u8], base: u32) -> Verdict
-    ensures { result ≡ silent_verdict xs.now base }
+fn check_silent(xs: &[u8], base: u32) -> Result<(), Refusal>
+    ensures { verdict_of result ≡ silent_verdict xs.now base }
 {
-    let above = found(xs, scan::first_above(xs, 2), refusal::DIGIT, base);
-    if above.number != 0 {
-        return above;
-    }
+    refused_at(xs, scan::above(xs, DTX), Reason::Digit, base)?;
     if DTX <= lowest(xs) {
-        return above;
+        return Ok(());
     }
-    found(xs, scan_equal::first_other(xs, DTX), refusal::FRAME, base)
+    refused_at(xs, scan_equal::other(xs, DTX), Reason::Frame, base)
 }
 
 // .. of slot k, missing or not.
-fn slot_verdict(
+fn check_slot(
     kind: usize,
     format: usize,
     first: usize,
@@ -48,13 +44,14 @@ fn slot_verdict(
     k: usize,
     xs: &[u8],
     base: u32,
-) -> Verdict
-    ensures { result ≡ cond (is_missing first missing k) (silent_verdict xs.now base) (part_verdict (format_in kind format) k xs.now base) }
+) -> Result<(), Refusal>
+    ensures { verdict_of result ≡ cond (is_missing first missing k) (silent_verdict xs.now base) (part_verdict (format_in kind format) k xs.now base) }
 {
     if compressed::is_missing(first, missing, k) {
-        return silent_verdict(xs, base);
+        check_silent(xs, base)
+    } else {
+        slot_check::check_row(kind, format, k, xs, base)
     }
-    slot_check::row_verdict(kind, format, k, xs, base)
 }
 
 // The first slot whose digits are refused.
@@ -64,26 +61,18 @@ pub(crate) fn check_digits(
     first: usize,
     missing: usize,
     xs: &[u8],
-) -> Verdict
+) -> Result<(), Refusal>
     requires { length xs.now ≡ 15 * (format_in kind format).slot }
-    ensures { result ≡ chain 15 (slot_verdict (format_in kind format) first missing xs.now) }
+    ensures { verdict_of result ≡ chain 15 (slot_verdict (format_in kind format) first missing xs.now) }
 {
     let s = row_sizes(kind, format);
     let w = s.slot;
-    let mut k = 0;
-    while k < 15 {
+    for k in 0..15 {
         let i = k * w;
         let j = i + w;
-        let verdict = slot_verdict(kind, format, first, missing, k, &xs[i..j], i as u32);
-        if verdict.number != 0 {
-            return verdict;
-        }
-        k += 1;
+        check_slot(kind, format, first, missing, k, &xs[i..j], i as u32)?;
     }
-    Verdict {
-        number: 0,
-        place: 0,
-    }
+    Ok(())
 }
 
 // The number of the i-th transmitted slot.
@@ -113,8 +102,7 @@ pub(crate) fn take(
     let m = s.tfci;
     let w = s.slot;
     let count = compressed::transmitted(missing);
-    let mut t = 0;
-    while t < count {
+    for t in 0..count {
         let k = number_of(first, missing, t);
         let a = t * n;
         let e = a + n;
@@ -124,6 +112,5 @@ pub(crate) fn take(
         let j = i + w;
         let taken = slot_read::take_row(kind, format, &xs[i..j], &mut data[a..e], &mut tfci[b..c]);
         commands[t] = taken as u8;
-        t += 1;
     }
 }

@@ -7,11 +7,77 @@ ghost use Rattle.correlator.specs.Complexes.{cx, ◌⊞◌, ◌⊟◌, ◌⊠◌
 ghost use Rattle.correlator.specs.Rule.{symbol, t1, t2, combined, numbers_of};
 ghost use Rattle.correlator.specs.Method.{Small, Parts, pair_sums, depth, Room, Halves};
 
+use std::ops::{Add, Mul, Sub};
+
 // A complex whole number.
 #[derive(Clone, Copy)]
 pub struct Complex {
     pub re: i64,
     pub im: i64,
+}
+
+// A gain of two parts of 16 bits.
+#[derive(Clone, Copy)]
+pub struct Gain {
+    pub re: i16,
+    pub im: i16,
+}
+
+impl From<Gain> for Complex {
+    ghost from_gives = { λ h z. z ≡ cx h.re h.im };
+
+    fn from(h: Gain) -> Complex {
+        Complex {
+            re: i64::from(h.re),
+            im: i64::from(h.im),
+        }
+    }
+}
+
+// A gain times a symbol.
+impl Mul for Complex {
+    type Output = Complex;
+
+    ghost can_mul = { λ h z. Small 32768 h × Small 2147483648 z };
+
+    ghost mul_gives = { λ h z r. r ≡ h ⊠ z };
+
+    fn mul(self, z: Complex) -> Complex {
+        Complex {
+            re: self.re * z.re - self.im * z.im,
+            im: self.re * z.im + self.im * z.re,
+        }
+    }
+}
+
+impl Add for Complex {
+    type Output = Complex;
+
+    ghost can_add = { λ z w. Small 140737488355328 z × Small 140737488355328 w };
+
+    ghost add_gives = { λ z w r. r ≡ z ⊞ w };
+
+    fn add(self, w: Complex) -> Complex {
+        Complex {
+            re: self.re + w.re,
+            im: self.im + w.im,
+        }
+    }
+}
+
+impl Sub for Complex {
+    type Output = Complex;
+
+    ghost can_sub = { λ z w. Small 140737488355328 z × Small 140737488355328 w };
+
+    ghost sub_gives = { λ z w r. r ≡ z ⊟ w };
+
+    fn sub(self, w: Complex) -> Complex {
+        Complex {
+            re: self.re - w.re,
+            im: self.im - w.im,
+        }
+    }
 }
 
 fn conj(z: Complex) -> Complex
@@ -22,43 +88,12 @@ fn conj(z: Complex) -> Complex
     Complex { re: z.re, im }
 }
 
-// A gain times a symbol.
-fn times(h: Complex, z: Complex) -> Complex
-    requires { Small 32768 h × Small 2147483648 z }
-    ensures { result ≡ h ⊠ z }
-{
-    Complex {
-        re: h.re * z.re - h.im * z.im,
-        im: h.re * z.im + h.im * z.re,
-    }
-}
-
-fn plus(z: Complex, w: Complex) -> Complex
-    requires { Small 140737488355328 z × Small 140737488355328 w }
-    ensures { result ≡ z ⊞ w }
-{
-    Complex {
-        re: z.re + w.re,
-        im: z.im + w.im,
-    }
-}
-
-fn minus(z: Complex, w: Complex) -> Complex
-    requires { Small 140737488355328 z × Small 140737488355328 w }
-    ensures { result ≡ z ⊟ w }
-{
-    Complex {
-        re: z.re - w.re,
-        im: z.im - w.im,
-    }
-}
-
 // T1 of a pair.
 fn first_of(h1: Complex, h2: Complex, r1: Complex, r2: Complex) -> Complex
     requires { Small 32768 h1 × Small 32768 h2 × Small 2147483648 r1 × Small 2147483648 r2 }
     ensures { result ≡ t1 h1 h2 r1 r2 }
 {
-    plus(times(conj(h1), r1), times(h2, conj(r2)))
+    conj(h1) * r1 + h2 * conj(r2)
 }
 
 // T2 of a pair.
@@ -66,14 +101,7 @@ fn second_of(h1: Complex, h2: Complex, r1: Complex, r2: Complex) -> Complex
     requires { Small 32768 h1 × Small 32768 h2 × Small 2147483648 r1 × Small 2147483648 r2 }
     ensures { result ≡ t2 h1 h2 r1 r2 }
 {
-    minus(times(conj(h1), r2), times(h2, conj(r1)))
-}
-
-// The same number, in 64 bits.
-fn wide(x: i32) -> i64
-    ensures { result ≡ x }
-{
-    x as i64
+    conj(h1) * r2 - h2 * conj(r1)
 }
 
 // Symbol k of a run of real and imaginary parts in turn.
@@ -81,9 +109,10 @@ fn symbol(s: &[i32], k: usize) -> Complex
     requires { (length s.now ≡ 32) × (k < 16) }
     ensures { result ≡ symbol s.now k }
 {
-    let re = wide(s[2 * k]);
-    let im = wide(s[2 * k + 1]);
-    Complex { re, im }
+    Complex {
+        re: i64::from(s[2 * k]),
+        im: i64::from(s[2 * k + 1]),
+    }
 }
 
 // The two components of a symbol of T are neighbours, with the same sign in every signature: they are added once.
@@ -100,15 +129,13 @@ fn pair_sums(h1: Complex, h2: Complex, received: &[i32]) -> [i64; 16]
     ensures { result ≡ pair_sums (combined h1 h2 received.now) }
 {
     let mut sums = [0i64; 16];
-    let mut m = 0;
-    while m < 8 {
+    for m in 0..8 {
         let r1 = symbol(received, 2 * m);
         let r2 = symbol(received, 2 * m + 1);
         let first = neighbours(first_of(h1, h2, r1, r2));
         let second = neighbours(second_of(h1, h2, r1, r2));
         sums[2 * m] = first;
         sums[2 * m + 1] = second;
-        m += 1;
     }
     sums
 }
@@ -118,13 +145,11 @@ fn level(s: &mut [i64], h: usize)
     requires { Halves h s.old }
     ensures { s.new ≡ sums h s.old ++ differences h s.old }
 {
-    let mut k = 0;
-    while k < h {
+    for k in 0..h {
         let x = s[k];
         let y = s[h + k];
         s[k] = x + y;
         s[h + k] = x - y;
-        k += 1;
     }
 }
 
@@ -144,23 +169,11 @@ fn fold(s: &mut [i64])
     }
 }
 
-// A gain of two parts of 16 bits.
-fn gain(re: i16, im: i16) -> Complex
-    ensures { result ≡ cx re im }
-{
-    Complex {
-        re: re as i64,
-        im: im as i64,
-    }
-}
-
 // The number of each signature, whatever is received.
-pub fn numbers(h1_re: i16, h1_im: i16, h2_re: i16, h2_im: i16, received: [i32; 32]) -> [i64; 16]
-    ensures { result ≡ numbers_of (cx h1_re h1_im) (cx h2_re h2_im) received }
+pub fn numbers(h1: Gain, h2: Gain, received: [i32; 32]) -> [i64; 16]
+    ensures { result ≡ numbers_of (cx h1.re h1.im) (cx h2.re h2.im) received }
 {
-    let h1 = gain(h1_re, h1_im);
-    let h2 = gain(h2_re, h2_im);
-    let mut sums = pair_sums(h1, h2, &received);
+    let mut sums = pair_sums(Complex::from(h1), Complex::from(h2), &received);
     fold(&mut sums);
     sums
 }

@@ -22,7 +22,7 @@ use Rattle.whole.proofs.Equal.{eq_z_true, eq_eq_z}
 use Rattle.whole.proofs.Sum.{sum_same}
 use Rattle.aich.specs.Rule.{offers, value_at, values_of}
 use Rattle.desk.specs.declared.Desk.{Desk}
-use Rattle.desk.specs.declared.Served.{Served}
+use Rattle.desk.specs.Answers.{Served}
 use Rattle.desk.specs.Rule.{candidate, place_of, ahead, served, indicator_of, indicators_of, last_after, fresh_last, to_aich, to_message}
 use Rattle.desk.specs.Outcome.{serve_verdict, Serve, timing_verdict}
 use Rattle.desk.specs.Exact.{Gets, got_one, SlotFair, DeskMoves, NobodyServed, Circle, MapperTakes, desk_at, turns, ServedIn, Fairness, Tight, RowIs, CallsRow, DeskOnce, Packs}

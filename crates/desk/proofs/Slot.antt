@@ -10,16 +10,22 @@ use lib.Bits.{bit_and, and_shr, and_step}
 use lib.Dec.{eqb, ltb, leb, lit<}
 use lib.ListN.{length, get_or}
 use lib.IntN.{ℤ, pos, negsuc}
-use Rattle.run.specs.declared.Verdict.{Verdict}
-use Rattle.run.specs.Verdicts.{done}
+use Rattle.std.specs.Prelude.{Result, Ok, Err}
+use Rattle.std.specs.Result.{IsErrAnd}
+use Rattle.run.specs.Verdict.{Verdict}
+use Rattle.run.specs.declared.refusal.Refusal.{Refusal}
+use Rattle.run.specs.Answers.{number_of}
+use Rattle.run.specs.Verdicts.{refused, done}
 use Rattle.run.specs.Ranges.{between}
+use Rattle.run.proofs.Answers.{left}
 use Rattle.run.proofs.Bools.{and_left, and_right}
-use Rattle.run.proofs.Chain.{or_else_done, or_else_pass, unless_done, unless_pass, each_pass, leaves_done, leaves_refused, number_0}
+use Rattle.run.proofs.Chain.{or_else_done, or_else_pass, unless_done, unless_pass, each_pass, leaves_done, number_0}
 use Rattle.run.proofs.Table.{tab_length, tab_at, tab_same}
 use Rattle.aich.specs.Rule.{offers, values_of}
 use Rattle.aich.specs.Outcome.{map_verdict, Map, map_available_verdict}
 use Rattle.aich.proofs.Available.{set_is}
 use Rattle.desk.specs.declared.Desk.{Desk}
+use Rattle.desk.specs.Answers.{served_of}
 use Rattle.desk.specs.Rule.{candidate, place_of, ahead, indicator_of, indicators_of, last_after}
 use Rattle.desk.specs.Outcome.{serve_verdict, Serve}
 use Rattle.desk.specs.Method.{mark_of, marks_of}
@@ -128,23 +134,34 @@ module _ (desk : Desk) (heard available n : ℕ) (values : List ℤ) where
   abbrev verdict : Verdict
   verdict = serve_verdict desk.last n (length values)
 
-  pub serve_refused : (verdict.number ≡ 0 → ⊥) → Serve desk heard available n values (record { verdict = verdict; desk = desk }) values
-  serve_refused h = record { verdict_is = refl; desk_is = sym (leaves_refused _ _ _ h); values_is = sym (leaves_refused _ _ _ h) }
+  pub serve_refused : (r : Result Desk Refusal) (x : Refusal) → IsErrAnd r (λ e. e ≡ x) → refused (number_of x.reason) x.place ≡ verdict
+      → Serve desk heard available n values (served_of desk r) values
+  serve_refused (Ok after) x h e = absurd h
+  serve_refused (Err y) x h e =
+      record { verdict_is = ap (λ z. refused (number_of z.reason) z.place) h ∙ e; desk_is = left x _ _ e; values_is = left x _ _ e }
 
-  module _ (h : verdict.number ≡ 0) {after q : ℕ} {marks written : List ℤ} {answer : Verdict} where
-    pub serve_done : after ≡ last_after (offers (bit_and heard available)) desk.last n → q ≡ place_of desk.last after
-        → marks ≡ marks_of (offers (bit_and heard available)) desk.last q → Map marks values answer written
-        → Serve desk heard available n values (record { verdict = done; desk = record { last = after } }) written
-    serve_done e p m mapped =
-        let t = taken desk.last n (length values) h in
-        let asks = candidate heard available in
-        let moved : after ≡ last_after asks desk.last n = rw (candidates_are heard available) at e in
-        let is : marks ≡ indicators_of asks desk.last n =
-        rw (p, moved, candidates_are heard available) at m ∙ marks_are asks desk.last n t.desk_ok t.n_low
-        in
-        let map_done : (map_verdict marks (length values)).number ≡ 0 = rw (is, t.values_ok) (number_0 (map_takes asks desk.last n)) in
+  module _ (h : done ≡ verdict) {after q : ℕ} {marks written : List ℤ} {answer : Verdict} (e : after ≡ last_after (offers (bit_and heard available)) desk.last n)
+      (p : q ≡ place_of desk.last after) (m : marks ≡ marks_of (offers (bit_and heard available)) desk.last q) (mapped : Map marks values answer written) where
+    ready : Taken desk.last n (length values)
+    ready = taken desk.last n (length values) (number_0 (sym h))
+
+    moved : after ≡ last_after (candidate heard available) desk.last n
+    moved = rw (candidates_are heard available) at e
+
+    marks_is : marks ≡ indicators_of (candidate heard available) desk.last n
+    marks_is = rw (p, moved, candidates_are heard available) at m ∙ marks_are (candidate heard available) desk.last n ready.desk_ok ready.n_low
+
+    mapper_takes : map_verdict marks (length values) ≡ done
+    mapper_takes = rw (marks_is, ready.values_ok) (map_takes (candidate heard available) desk.last n)
+
+    pub serve_done : Serve desk heard available n values (record { verdict = done; desk = record { last = after } }) written
+    serve_done =
         record {
-          verdict_is = sym (takes t);
-          desk_is = moved ∙ sym (leaves_done _ _ _ h);
-          values_is = mapped.values_is ∙ leaves_done _ _ _ map_done ∙ ap values_of is ∙ sym (leaves_done _ _ _ h);
+          verdict_is = h;
+          desk_is = moved ∙ sym (leaves_done _ _ _ (number_0 (sym h)));
+          values_is = mapped.values_is ∙ leaves_done _ _ _ (number_0 mapper_takes) ∙ ap values_of marks_is ∙ sym (leaves_done _ _ _ (number_0 (sym h)));
         }
+
+    -- the mapper refuses nothing here
+    pub mapper_done : answer ≡ done
+    mapper_done = mapped.verdict_is ∙ mapper_takes

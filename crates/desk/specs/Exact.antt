@@ -1,14 +1,13 @@
 -- The theorems of the random access desk (docs/RULES.md, 'The random access desk'). Each statement is proved in proofs/Exact.antt under its name in small letters.
 -- Assumes nothing.
-use Rattle.std.specs.Prelude.{ℕ, zero, suc, ◌+◌, ◌-◌, ◌/◌, ◌≤◌, ◌<◌, min, ◌≡◌, Bool, true, false, ◌&&◌, List, ◌⊎◌, ltb, length, get_or, ℤ, pos, negsuc}
+use Rattle.std.specs.Prelude.{ℕ, zero, suc, ◌+◌, ◌/◌, ◌≤◌, ◌<◌, min, ◌≡◌, Bool, true, false, ◌&&◌, List, ◌⊎◌, ltb, length, get_or, ℤ, pos, negsuc}
 use Rattle.run.specs.Table.{tab}
 use Rattle.run.specs.Verdicts.{done, leaves, Narrow}
 use Rattle.whole.specs.Equal.{eq_z}
 use Rattle.aich.specs.Rule.{offers, values_of}
 use Rattle.aich.specs.Available.{GivesUnder}
 use Rattle.desk.specs.declared.Desk.{Desk}
-use Rattle.desk.specs.declared.Served.{Served}
-use Rattle.desk.specs.declared.Distance.{Distance}
+use Rattle.desk.specs.Answers.{Served, Distance}
 use Rattle.run.specs.Count.{count}
 use Rattle.desk.specs.Rule.{candidate, place_of, signature_at, indicators_of, last_after, fresh_last, to_aich, to_message}
 use Rattle.desk.specs.Outcome.{Fresh, serve_verdict, Serve, timing_verdict, ToAich, ToMessage}

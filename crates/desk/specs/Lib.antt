@@ -1,4 +1,5 @@
 pub mod Rule
+pub mod Answers
 pub mod Outcome
 pub mod Method
 pub mod Exact

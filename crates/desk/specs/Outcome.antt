@@ -1,13 +1,12 @@
 -- docs/RULES.md, 'The random access desk': what each call answers and leaves in each lent run, for all inputs.
 -- Assumes nothing.
 use Rattle.std.specs.Prelude.{ℕ, ◌≡◌, ◌&&◌, List, eqb, leb, length, ℤ}
-use Rattle.run.specs.declared.Verdict.{Verdict}
+use Rattle.run.specs.Verdict.{Verdict}
 use Rattle.run.specs.Refusals.{length_refused, range_refused}
 use Rattle.run.specs.Verdicts.{or_else, unless, leaves}
 use Rattle.aich.specs.Rule.{values_of}
 use Rattle.desk.specs.declared.Desk.{Desk}
-use Rattle.desk.specs.declared.Served.{Served}
-use Rattle.desk.specs.declared.Distance.{Distance}
+use Rattle.desk.specs.Answers.{Served, Distance}
 use Rattle.desk.specs.Rule.{candidate, indicators_of, last_after, fresh_last, to_aich, to_message}
 
 pub record Fresh (answer : Desk) : Type 0 where

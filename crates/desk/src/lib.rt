@@ -1,29 +1,16 @@
 // The random access desk, fresh, and its distances: docs/RULES.md, 'The random access desk'; TS 25.211, 5.3.3.7 and 7.3.
 #![tactic(auto)]
 
-ghost use Rattle.std.specs.Prelude.{◌≡◌};
-ghost use Rattle.desk.specs.Outcome.{Fresh, timing_verdict, ToAich, ToMessage};
+ghost use Rattle.desk.specs.Answers.{distance_of};
+ghost use Rattle.desk.specs.Outcome.{Fresh, ToAich, ToMessage};
+ghost use Rattle.desk.specs.Method.{DistanceIs};
 
-use run::{Verdict, refusal, unless};
+use run::{Reason, Refusal, require};
 
 // The signature served last.
 #[derive(Clone, Copy)]
 pub struct Desk {
     pub last: usize,
-}
-
-// What `serve` answers: the desk afterwards, as it was where refused.
-#[derive(Clone, Copy)]
-pub struct Served {
-    pub verdict: Verdict,
-    pub desk: Desk,
-}
-
-// A distance in chips, 0 where refused.
-#[derive(Clone, Copy)]
-pub struct Distance {
-    pub verdict: Verdict,
-    pub chips: usize,
 }
 
 // A desk that has served nobody: it starts from signature 0.
@@ -33,38 +20,24 @@ pub fn fresh() -> Desk
     Desk { last: 15 }
 }
 
-fn timing_verdict(timing: usize) -> Verdict
-    ensures { result ≡ timing_verdict timing }
+// The distance of a timing, of which there are two: it is short where the timing is 0, and long where it is 1.
+fn distance(timing: usize, short: usize, long: usize) -> Result<usize, Refusal>
+    ensures { DistanceIs timing short long result }
 {
-    unless(timing <= 1, refusal::RANGE, 1)
+    require(timing <= 1, Reason::Range, 1)?;
+    Ok(if timing == 0 { short } else { long })
 }
 
 // Chips from a preamble to its acquisition indicator.
-pub fn to_aich(timing: usize) -> Distance
-    ensures { ToAich timing result }
+pub fn to_aich(timing: usize) -> Result<usize, Refusal>
+    ensures { ToAich timing (distance_of result) }
 {
-    let verdict = timing_verdict(timing);
-    if verdict.number != 0 {
-        return Distance { verdict, chips: 0 };
-    }
-    let chips = match timing {
-        0 => 7680,
-        _ => 12800,
-    };
-    Distance { verdict, chips }
+    distance(timing, 7680, 12800)
 }
 
 // Chips from a preamble to the message.
-pub fn to_message(timing: usize) -> Distance
-    ensures { ToMessage timing result }
+pub fn to_message(timing: usize) -> Result<usize, Refusal>
+    ensures { ToMessage timing (distance_of result) }
 {
-    let verdict = timing_verdict(timing);
-    if verdict.number != 0 {
-        return Distance { verdict, chips: 0 };
-    }
-    let chips = match timing {
-        0 => 15360,
-        _ => 20480,
-    };
-    Distance { verdict, chips }
+    distance(timing, 15360, 20480)
 }

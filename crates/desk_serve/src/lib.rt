@@ -2,30 +2,30 @@
 #![tactic(auto)]
 
 ghost use Rattle.std.specs.Prelude.{◌<◌, ◌≤◌, ◌≡◌, ◌&&◌, leb};
+ghost use Rattle.run.specs.Answers.{verdict_of};
 ghost use Rattle.aich.specs.Rule.{offers};
+ghost use Rattle.desk.specs.Answers.{served_of};
 ghost use Rattle.desk.specs.Rule.{last_after};
 ghost use Rattle.desk.specs.Outcome.{serve_verdict, Serve};
 ghost use Rattle.desk.specs.Method.{Turned, mark_of, marks_of};
 
-use desk::{Desk, Served};
-use run::{Verdict, or_else, refusal, unless};
+use desk::Desk;
+use run::{Reason, Refusal, require};
 
 // How many may be served in a slot.
 fn is_number(n: usize) -> bool
     ensures { result ≡ (leb 1 n && leb n 16) }
 {
-    if n < 1 {
-        return false;
-    }
-    n <= 16
+    1 <= n && n <= 16
 }
 
-fn serve_verdict(last: usize, n: usize, values_length: usize) -> Verdict
-    ensures { result ≡ serve_verdict last n values_length }
+// The checks in their order.
+fn check(last: usize, n: usize, values_length: usize) -> Result<(), Refusal>
+    ensures { verdict_of result ≡ serve_verdict last n values_length }
 {
-    let desk = unless(last <= 15, refusal::RANGE, 2);
-    let numbers = or_else(unless(is_number(n), refusal::RANGE, 0), desk);
-    or_else(unless(values_length == 32, refusal::LENGTH, 0), numbers)
+    require(values_length == 32, Reason::Length, 0)?;
+    require(is_number(n), Reason::Range, 0)?;
+    require(last <= 15, Reason::Range, 2)
 }
 
 // The candidates in circular order: bit p is the one at place p.
@@ -44,14 +44,12 @@ fn last_served(candidates: u16, last: usize, n: usize) -> usize
 {
     let mut rest = turned(candidates, last);
     let mut place = 0;
-    let mut met = 0;
-    while met < n {
+    for met in 0..n {
         if rest == 0 {
             return (last + place) % 16;
         }
         place = u32::trailing_zeros(rest) as usize + 1;
         rest = rest & (rest - 1);
-        met += 1;
     }
     (last + place) % 16
 }
@@ -76,35 +74,28 @@ fn marks(candidates: u32, last: u32, q: u32) -> [i32; 16]
     ensures { result ≡ marks_of (offers candidates) last q }
 {
     let mut indicators = [0i32; 16];
-    let mut s = 0u32;
-    while s < 16 {
+    for s in 0..16u32 {
         indicators[s as usize] = mark(candidates, last, q, s);
-        s += 1;
     }
     indicators
 }
 
-// One access slot: the values of the indicators and the desk afterwards, or the refusal, and both as they were. Done is written out, so that it need not wait for a place.
-pub fn serve(desk: Desk, heard: u16, available: u16, n: usize, values: &mut [i32]) -> Served
-    ensures { Serve desk heard available n values.old result values.new }
+// One access slot: the values of the indicators and the desk afterwards, or the refusal, and both as they were.
+pub fn serve(
+    desk: Desk,
+    heard: u16,
+    available: u16,
+    n: usize,
+    values: &mut [i32],
+) -> Result<Desk, Refusal>
+    ensures { Serve desk heard available n values.old (served_of desk result) values.new }
 {
     let last = desk.last;
-    let verdict = serve_verdict(last, n, values.len());
-    if verdict.number != 0 {
-        return Served { verdict, desk };
-    }
+    check(last, n, values.len())?;
     let candidates = heard & available;
     let after = last_served(candidates, last, n);
     let q = (after + 15 - last) % 16;
     let indicators = marks(candidates as u32, last as u32, q as u32);
-    aich::map(&indicators, values);
-    let moved = Desk { last: after };
-    let done = Verdict {
-        number: 0,
-        place: 0,
-    };
-    Served {
-        verdict: done,
-        desk: moved,
-    }
+    aich::map(&indicators, values)?;
+    Ok(Desk { last: after })
 }

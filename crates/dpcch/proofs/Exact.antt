@@ -9,7 +9,7 @@ use native.Mathlib.Omega.{arith}
 use borrow.Author.Tests.{leb-true, le-leb}
 use lib.Dec.{leb, lit<}
 use lib.ListN.{length, get_or, replicate, get_or-replicate}
-use Rattle.run.specs.declared.Verdict.{Verdict}
+use Rattle.run.specs.Verdict.{Verdict}
 use Rattle.run.specs.First.{Every, at_most, like_first}
 use Rattle.run.specs.Fields.{cut, joined, field, start}
 use Rattle.run.specs.Parts.{part}

@@ -8,7 +8,7 @@ use borrow.Rule.Slice.PartMut.{put_mid, mid_of}
 use borrow.Author.Tests.{leb-true}
 use lib.Dec.{leb, lit<}
 use lib.ListN.{length, get_or, take, drop}
-use Rattle.run.specs.declared.Verdict.{Verdict}
+use Rattle.run.specs.Verdict.{Verdict}
 use Rattle.run.specs.First.{Every, at_most}
 use Rattle.run.specs.Parts.{part}
 use Rattle.run.specs.Verdicts.{done, chain}

@@ -8,7 +8,7 @@ use native.Mathlib.Omega.{arith}
 use borrow.Author.Tests.{eq-eqb}
 use borrow.Rule.Slice.PartMut.{put_mid, mid_of}
 use lib.Dec.{lit<}
-use lib.ListN.{length, get_or, take, drop, replicate, length-replicate}
+use lib.ListN.{length, get_or, replicate, length-replicate}
 use lib.Seq.{length-take-le, take_all}
 use Rattle.run.specs.Fields.{total, field, start}
 use Rattle.run.specs.Written.{over}

@@ -7,7 +7,7 @@ use Prim.Native.Nat.{ℕ, ◌+◌, ◌-◌, ◌≤◌}
 use native.Mathlib.Omega.{arith}
 use borrow.Author.Tests.{eqb-true, ltb-true, ltb-false}
 use lib.Dec.{eqb, leb, ltb}
-use lib.ListN.{length, get_or, take, drop, replicate, length-drop, get_or-eq_default}
+use lib.ListN.{length, take, drop, replicate, length-drop, get_or-eq_default}
 use Rattle.run.specs.Fields.{cut, field}
 use Rattle.run.specs.Table.{tab}
 use Rattle.run.proofs.Bools.{either}

@@ -1,12 +1,12 @@
 -- Demand 2 for the uplink DPCCH (docs/RULES.md, 'The demands' and 'Uplink DPCCH'). Each statement is proved in proofs/Exact.antt under its name in small letters.
 -- Assumes nothing.
 use Rattle.std.specs.Prelude.{ℕ, ◌+◌, ◌*◌, ◌<◌, ◌≤◌, ◌≡◌, List, ◌↔◌, length, get_or}
-use Rattle.run.specs.declared.Verdict.{Verdict}
+use Rattle.run.specs.Verdict.{Verdict}
 use Rattle.run.specs.Fields.{cut, joined}
 use Rattle.run.specs.Parts.{part}
 use Rattle.run.specs.Refusals.{tfci_refused}
 use Rattle.run.specs.Verdicts.{done, Narrow}
-use Rattle.dpch.specs.declared.Command.{Command}
+use Rattle.dpch.specs.Command.{Command}
 use Rattle.dpch.specs.Uplink.{dpcch_format, dpcch_widths}
 use Rattle.dpch.specs.UplinkPilots.{dpcch_pilot}
 use Rattle.dpdch.specs.Outcome as dpdch

@@ -1,14 +1,14 @@
 -- docs/RULES.md, 'Uplink DPCCH': what each call answers and leaves in each lent run, for all inputs.
 -- Assumes nothing.
 use Rattle.std.specs.Prelude.{ℕ, ◌+◌, ◌*◌, ◌≡◌, Bool, cond, ◌&&◌, List, [], ◌∷◌, length, get_or, eqb, leb}
-use Rattle.run.specs.declared.Verdict.{Verdict}
+use Rattle.run.specs.Verdict.{Verdict}
 use Rattle.run.specs.First.{at_most, like_first, agree}
 use Rattle.run.specs.Fields.{start}
 use Rattle.run.specs.Parts.{part}
 use Rattle.run.specs.Refusals.{length_refused, digit_refused, tpc_refused, pilot_refused}
 use Rattle.run.specs.Verdicts.{or_else, unless, each, chain, leaves}
 use Rattle.dpch.specs.declared.Dpcch.{Dpcch}
-use Rattle.dpch.specs.declared.Command.{Command}
+use Rattle.dpch.specs.Command.{Command}
 use Rattle.dpch.specs.Heads.{slot_head, frame_head}
 use Rattle.dpch.specs.Uplink.{dpcch_format, dpcch_widths}
 use Rattle.dpch.specs.UplinkPilots.{dpcch_pilot}

@@ -2,90 +2,64 @@
 // TS 25.211, 5.2.1.1, table 2.
 #![tactic(auto)]
 
-ghost use Rattle.std.specs.Prelude.{◌≡◌, ◌&&◌};
-ghost use Rattle.dpch.specs.Uplink.{dpcch_format};
+ghost use Rattle.std.specs.Prelude.{◌≡◌};
+ghost use Rattle.run.specs.Answers.{verdict_of};
+ghost use Rattle.dpch.specs.Uplink.{dpcch_row, dpcch_format};
 ghost use Rattle.dpcch.specs.Outcome.{map_head, sizes_are};
 
 use dpch::Dpcch;
-use run::Verdict;
+use run::Refusal;
+
+// A row of the table, in its order.
+fn row(slot: usize, pilot: usize, tpc: usize, tfci: usize, fbi: usize) -> Dpcch
+    ensures { result ≡ dpcch_row slot pilot tpc tfci fbi }
+{
+    Dpcch {
+        pilot,
+        tfci,
+        fbi,
+        tpc,
+        slot,
+    }
+}
 
 // The format of a number, a row of zeros where there is none. A match becomes a table in read-only memory.
 pub fn format_of(n: usize) -> Dpcch
     ensures { result ≡ dpcch_format n }
 {
     match n {
-        0 => Dpcch {
-            pilot: 6,
-            tfci: 2,
-            fbi: 0,
-            tpc: 2,
-            slot: 10,
-        },
-        1 => Dpcch {
-            pilot: 8,
-            tfci: 0,
-            fbi: 0,
-            tpc: 2,
-            slot: 10,
-        },
-        2 => Dpcch {
-            pilot: 5,
-            tfci: 2,
-            fbi: 1,
-            tpc: 2,
-            slot: 10,
-        },
-        3 => Dpcch {
-            pilot: 7,
-            tfci: 0,
-            fbi: 1,
-            tpc: 2,
-            slot: 10,
-        },
-        _ => Dpcch {
-            pilot: 0,
-            tfci: 0,
-            fbi: 0,
-            tpc: 0,
-            slot: 0,
-        },
+        0 => row(10, 6, 2, 2, 0),
+        1 => row(10, 8, 2, 0, 0),
+        2 => row(10, 5, 2, 2, 1),
+        3 => row(10, 7, 2, 0, 1),
+        _ => row(0, 0, 0, 0, 0),
     }
 }
 
 // The checks of numbers and lengths before a slot is mapped.
-pub fn map_head(
+pub fn check_map_head(
     format: usize,
     slot: usize,
     tfci_length: usize,
     fbi_length: usize,
     out_length: usize,
-) -> Verdict
-    ensures { result ≡ map_head format slot tfci_length fbi_length out_length }
+) -> Result<(), Refusal>
+    ensures { verdict_of result ≡ map_head format slot tfci_length fbi_length out_length }
 {
     let f = format_of(format);
-    dpch::slot_head(
-        3,
-        format,
-        slot,
+    let right = [
         tfci_length == f.tfci,
         fbi_length == f.fbi,
         out_length == f.slot,
-    )
-}
-
-// Both hold.
-fn both(a: bool, b: bool) -> bool
-    ensures { result ≡ (a && b) }
-{
-    if a { b } else { false }
+    ];
+    dpch::check_slot_head(3, format, slot, &right)
 }
 
 // Whether the table has the format, and TFCI, FBI and slot have its lengths: all that writing a slot or taking its fields stands on.
+#[tactic(auto, unfolding(crate::specs::Outcome::sizes_are))]
 pub fn sizes_are(format: usize, tfci_length: usize, fbi_length: usize, slot_length: usize) -> bool
     ensures { result ≡ sizes_are format tfci_length fbi_length slot_length }
 {
     let f = format_of(format);
-    let last = both(fbi_length == f.fbi, slot_length == f.slot);
-    let lengths = both(tfci_length == f.tfci, last);
-    both(format <= 3, lengths)
+    format <= 3 && tfci_length == f.tfci && fbi_length == f.fbi && slot_length == f.slot
 }

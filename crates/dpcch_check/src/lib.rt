@@ -2,22 +2,18 @@
 #![tactic(auto)]
 
 ghost use Rattle.std.specs.Prelude.{◌≡◌};
+ghost use Rattle.run.specs.Answers.{verdict_of};
 ghost use Rattle.dpcch.specs.Outcome.{part_verdict};
 
-use run::{Verdict, refusal};
+use run::{Reason, Refusal, require};
 
 mod fields;
 
 // The checks of a slot's digits, which count their places from `base`.
-pub fn part_verdict(format: usize, slot: usize, xs: &[u8], base: u16) -> Verdict
-    ensures { result ≡ part_verdict format slot xs.now base }
+pub fn check(format: usize, slot: usize, xs: &[u8], base: u16) -> Result<(), Refusal>
+    ensures { verdict_of result ≡ part_verdict format slot xs.now base }
 {
     let f = dpcch::format_of(format);
-    if xs.len() != f.slot {
-        return Verdict {
-            number: refusal::LENGTH,
-            place: 0,
-        };
-    }
+    require(xs.len() == f.slot, Reason::Length, 0)?;
     fields::check(f, slot, xs, base)
 }

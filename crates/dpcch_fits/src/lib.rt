@@ -9,13 +9,6 @@ ghost use Rattle.dpcch.specs.Ready.{pilot_source, Whole};
 
 use dpch::Dpcch;
 
-// Both hold. Neither is left out where the other fails: a jump costs more than a field.
-fn both(a: bool, b: bool) -> bool
-    ensures { result ≡ (a && b) }
-{
-    if a { b } else { false }
-}
-
 // Whether the digits of a pilot field are the slot's pilot.
 fn is_pilot(s: &[u8], slot: usize) -> bool
     ensures { result ≡ (leb (length s.now) (length (pilot_source (length s.now) slot)) && all (length s.now) (agree s.now (pilot_source (length s.now) slot))) }
@@ -25,7 +18,8 @@ fn is_pilot(s: &[u8], slot: usize) -> bool
     scan_diff::same_front(s, &row[a..15], s.len())
 }
 
-// Each field in its own stretch, and all digits together. Of bits, TPC digits are a command where they are the same.
+// Each field in its own stretch, and all digits together. Of bits, TPC digits are a command where they are the same. None is left out where another fails: a jump costs more
+// than a field.
 fn digits_fit(f: Dpcch, slot: usize, xs: &[u8]) -> bool
     requires { Whole f (length xs.now) × (f.tpc ≡ 2) }
     ensures { result ≡ eqb (digits_verdict f slot xs.now 0).number 0 }
@@ -33,9 +27,7 @@ fn digits_fit(f: Dpcch, slot: usize, xs: &[u8]) -> bool
     let a = f.pilot;
     let b = a + f.tfci + f.fbi;
     let c = b + 1;
-    let last = is_pilot(&xs[0..a], slot);
-    let commands = both(xs[c] == xs[b], last);
-    both(scan::all_at_most(xs, 1, f.slot), commands)
+    scan::all_at_most(xs, 1, f.slot) & (xs[c] == xs[b]) & is_pilot(&xs[0..a], slot)
 }
 
 // Whether the run is a slot of the format and no check of its digits refuses it.
@@ -44,10 +36,7 @@ fn fits_as(format: usize, slot: usize, xs: &[u8]) -> bool
     ensures { result ≡ eqb (part_verdict format slot xs.now 0).number 0 }
 {
     let f = dpcch::format_of(format);
-    if xs.len() != f.slot {
-        return false;
-    }
-    digits_fit(f, slot, xs)
+    xs.len() == f.slot && digits_fit(f, slot, xs)
 }
 
 // The same, of the table's formats; of any other it is not. Where the format is a number, so is the width of each field, and a field is one comparison.

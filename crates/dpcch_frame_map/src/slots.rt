@@ -1,70 +1,52 @@
 // The fifteen slots of a frame, one after the other: each is lent its own part of every run.
 ghost use Rattle.std.specs.Prelude.{◌≡◌, true, ◌≤◌, length};
-ghost use Rattle.run.specs.First.{all, at_most};
+ghost use Rattle.run.specs.Answers.{verdict_of};
+ghost use Rattle.run.specs.First.{Every, at_most};
 ghost use Rattle.run.specs.Verdicts.{chain};
 ghost use Rattle.dpch.specs.Uplink.{dpcch_format};
 ghost use Rattle.dpcch.specs.Rule.{frame_of};
 ghost use Rattle.dpcch.specs.Outcome.{slot_fields, Put};
 ghost use Rattle.dpcch.specs.Ready.{FrameReady, Room, FieldBits};
 
-use run::Verdict;
+use dpdch::are_few_bits;
+use run::Refusal;
 
-// Whether all digits of a run are bits. A frame's runs of fields have fifteen digits or thirty, which are worth a look whose length is a number.
+// Whether all digits of a run are bits. A frame's runs of fields have fifteen digits or thirty.
 fn are_bits(s: &[u8]) -> bool
-    ensures { result ≡ all (length s.now) (at_most 1 s.now) }
+    ensures { result ≡ true → Every (at_most 1 s.now) (length s.now) }
 {
-    match s.len() {
-        15 => scan::all_at_most(s, 1, 15),
-        30 => scan::all_at_most(s, 1, 30),
-        _ => s.len() <= scan::first_above(s, 1),
-    }
+    are_few_bits::<15>(s) || are_few_bits::<30>(s) || scan::above(s, 1).is_none()
 }
 
 // Whether the fields of all slots are good: each run is looked at as a whole, and a slot by itself only where one of them is not.
 pub(crate) fn are_good(tfci: &[u8], fbi: &[u8], commands: &[u8]) -> bool
     ensures { result ≡ true → FieldBits tfci.now fbi.now commands.now }
 {
-    if !are_bits(commands) {
-        return false;
-    }
-    if !are_bits(tfci) {
-        return false;
-    }
-    are_bits(fbi)
+    are_bits(commands) && are_bits(tfci) && are_bits(fbi)
 }
 
 // The first slot whose command, TFCI or FBI is refused.
-pub(crate) fn check_fields(format: usize, tfci: &[u8], fbi: &[u8], commands: &[u8]) -> Verdict
+pub(crate) fn check_fields(
+    format: usize,
+    tfci: &[u8],
+    fbi: &[u8],
+    commands: &[u8],
+) -> Result<(), Refusal>
     requires { FrameReady format (length tfci.now) (length fbi.now) (length commands.now) }
-    ensures { result ≡ chain 15 (slot_fields format tfci.now fbi.now commands.now) }
+    ensures { verdict_of result ≡ chain 15 (slot_fields format tfci.now fbi.now commands.now) }
 {
     let f = dpcch::format_of(format);
     let n = f.tfci;
     let m = f.fbi;
-    let mut k = 0;
-    while k < 15 {
+    for k in 0..15 {
         let a = k * n;
         let e = a + n;
         let b = k * m;
         let c = b + m;
         let tpc = commands[k] as usize;
-        let verdict = dpcch_map::fields_verdict(
-            tpc,
-            &tfci[a..e],
-            &fbi[b..c],
-            k,
-            a as u32,
-            b as u32,
-        );
-        if verdict.number != 0 {
-            return verdict;
-        }
-        k += 1;
+        dpcch_map::check_fields(tpc, &tfci[a..e], &fbi[b..c], k, a as u32, b as u32)?;
     }
-    Verdict {
-        number: 0,
-        place: 0,
-    }
+    Ok(())
 }
 
 // A slot of the frame. The arms stand here once more, beside those of `dpcch_put::put`: so they are the loop's own, and the compiler asks for the format once a frame.
@@ -89,8 +71,7 @@ pub(crate) fn write(format: usize, tfci: &[u8], fbi: &[u8], out: &mut [u8], comm
     let n = f.tfci;
     let m = f.fbi;
     let w = f.slot;
-    let mut slot = 0;
-    while slot < 15 {
+    for slot in 0..15 {
         let a = slot * n;
         let e = a + n;
         let b = slot * m;
@@ -105,6 +86,5 @@ pub(crate) fn write(format: usize, tfci: &[u8], fbi: &[u8], out: &mut [u8], comm
             &fbi[b..c],
             &mut out[i..j],
         );
-        slot += 1;
     }
 }

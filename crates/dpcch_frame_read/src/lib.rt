@@ -2,51 +2,45 @@
 #![tactic(auto)]
 
 ghost use Rattle.std.specs.Prelude.{◌≡◌};
+ghost use Rattle.run.specs.Answers.{verdict_of};
 ghost use Rattle.dpcch.specs.Outcome.{frame_read_head, frame_read_verdict, FrameRead};
 
-use run::Verdict;
+use run::Refusal;
 
 mod slots;
 
 // The checks of format and lengths.
-fn read_head(
+fn check_head(
     format: usize,
     frame_length: usize,
     tfci_length: usize,
     fbi_length: usize,
     commands_length: usize,
-) -> Verdict
-    ensures { result ≡ frame_read_head format frame_length tfci_length fbi_length commands_length }
+) -> Result<(), Refusal>
+    ensures { verdict_of result ≡ frame_read_head format frame_length tfci_length fbi_length commands_length }
 {
     let f = dpcch::format_of(format);
-    dpch::frame_head(
-        3,
-        format,
+    let right = [
         frame_length == 15 * f.slot,
         tfci_length == 15 * f.tfci,
         fbi_length == 15 * f.fbi,
         commands_length == 15,
-    )
+    ];
+    dpch::check_frame_head(3, format, &right)
 }
 
-fn read_verdict(
+fn check(
     format: usize,
     xs: &[u8],
     tfci_length: usize,
     fbi_length: usize,
     commands_length: usize,
-) -> Verdict
-    ensures { result ≡ frame_read_verdict format xs.now tfci_length fbi_length commands_length }
+) -> Result<(), Refusal>
+    ensures { verdict_of result ≡ frame_read_verdict format xs.now tfci_length fbi_length commands_length }
 {
-    let head = read_head(format, xs.len(), tfci_length, fbi_length, commands_length);
-    if head.number != 0 {
-        return head;
-    }
+    check_head(format, xs.len(), tfci_length, fbi_length, commands_length)?;
     if slots::all_fit(format, xs) {
-        return Verdict {
-            number: 0,
-            place: 0,
-        };
+        return Ok(());
     }
     slots::check_digits(format, xs)
 }
@@ -58,13 +52,10 @@ pub fn read(
     tfci: &mut [u8],
     fbi: &mut [u8],
     commands: &mut [u8],
-) -> Verdict
-    ensures { FrameRead format xs.now tfci.old fbi.old commands.old result tfci.new fbi.new commands.new }
+) -> Result<(), Refusal>
+    ensures { FrameRead format xs.now tfci.old fbi.old commands.old (verdict_of result) tfci.new fbi.new commands.new }
 {
-    let verdict = read_verdict(format, xs, tfci.len(), fbi.len(), commands.len());
-    if verdict.number != 0 {
-        return verdict;
-    }
+    check(format, xs, tfci.len(), fbi.len(), commands.len())?;
     slots::take(format, xs, tfci, fbi, commands);
-    verdict
+    Ok(())
 }

@@ -1,12 +1,13 @@
 // The fifteen slots of a frame, one after the other: each is lent its own part of every run.
 ghost use Rattle.std.specs.Prelude.{◌≡◌, true, ◌*◌, length};
+ghost use Rattle.run.specs.Answers.{verdict_of};
 ghost use Rattle.run.specs.Verdicts.{chain, done};
 ghost use Rattle.dpch.specs.Uplink.{dpcch_format};
 ghost use Rattle.dpcch.specs.Rule.{frame_tfci_in, frame_fbi_in, commands_in};
 ghost use Rattle.dpcch.specs.Outcome.{slot_digits};
 ghost use Rattle.dpcch.specs.Ready.{Room, Bits};
 
-use run::Verdict;
+use run::Refusal;
 
 // Whether every slot is one that some fields give; if not, check_digits tells which is not.
 pub(crate) fn all_fit(format: usize, xs: &[u8]) -> bool
@@ -16,39 +17,29 @@ pub(crate) fn all_fit(format: usize, xs: &[u8]) -> bool
     let f = dpcch::format_of(format);
     let w = f.slot;
     let mut good = true;
-    let mut k = 0;
-    while k < 15 {
+    for k in 0..15 {
         let i = k * w;
         let j = i + w;
         if !dpcch_fits::fits(format, k, &xs[i..j]) {
             good = false;
         }
-        k += 1;
     }
     good
 }
 
 // The first slot whose digits are refused.
-pub(crate) fn check_digits(format: usize, xs: &[u8]) -> Verdict
+pub(crate) fn check_digits(format: usize, xs: &[u8]) -> Result<(), Refusal>
     requires { length xs.now ≡ 15 * (dpcch_format format).slot }
-    ensures { result ≡ chain 15 (slot_digits format xs.now) }
+    ensures { verdict_of result ≡ chain 15 (slot_digits format xs.now) }
 {
     let f = dpcch::format_of(format);
     let w = f.slot;
-    let mut k = 0;
-    while k < 15 {
+    for k in 0..15 {
         let i = k * w;
         let j = i + w;
-        let verdict = dpcch_check::part_verdict(format, k, &xs[i..j], i as u16);
-        if verdict.number != 0 {
-            return verdict;
-        }
-        k += 1;
+        dpcch_check::check(format, k, &xs[i..j], i as u16)?;
     }
-    Verdict {
-        number: 0,
-        place: 0,
-    }
+    Ok(())
 }
 
 // The fields of each slot into their parts of the runs.
@@ -60,8 +51,7 @@ pub(crate) fn take(format: usize, xs: &[u8], tfci: &mut [u8], fbi: &mut [u8], co
     let n = f.tfci;
     let m = f.fbi;
     let w = f.slot;
-    let mut k = 0;
-    while k < 15 {
+    for k in 0..15 {
         let a = k * n;
         let e = a + n;
         let b = k * m;
@@ -70,6 +60,5 @@ pub(crate) fn take(format: usize, xs: &[u8], tfci: &mut [u8], fbi: &mut [u8], co
         let j = i + w;
         let tpc = dpcch_read::take(format, &xs[i..j], &mut tfci[a..e], &mut fbi[b..c]);
         commands[k] = tpc as u8;
-        k += 1;
     }
 }

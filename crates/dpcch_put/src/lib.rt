@@ -35,24 +35,13 @@ fn write(f: Dpcch, slot: usize, tpc: u8, tfci: &[u8], fbi: &[u8], out: &mut [u8]
 }
 
 // The slot of the fields with no look at their digits, where the table has the format and their lengths are its; else `out` as it was. Where the format is a number, so
-// is the width of each field, and a slot is a few stores. A length that is asked for by itself is known to the compiler from there on.
+// is the width of each field, and a slot is a few stores.
 pub fn put_as(format: usize, slot: usize, tpc: u8, tfci: &[u8], fbi: &[u8], out: &mut [u8])
     ensures { Put format slot tpc tfci.now fbi.now out.old out.new }
 {
-    if 3 < format {
-        return;
+    if dpcch::sizes_are(format, tfci.len(), fbi.len(), out.len()) {
+        write(dpcch::format_of(format), slot, tpc, tfci, fbi, out);
     }
-    let f = dpcch::format_of(format);
-    if tfci.len() != f.tfci {
-        return;
-    }
-    if fbi.len() != f.fbi {
-        return;
-    }
-    if out.len() != f.slot {
-        return;
-    }
-    write(f, slot, tpc, tfci, fbi, out);
 }
 
 // The same, by an arm for each format, which names it.

@@ -3,54 +3,47 @@
 #![tactic(auto)]
 
 ghost use Rattle.std.specs.Prelude.{◌≡◌};
+ghost use Rattle.run.specs.Answers.{verdict_of};
+ghost use Rattle.dpch.specs.Command.{command_of};
 ghost use Rattle.dpcch.specs.Outcome.{read_head, read_verdict, Read, Take};
 
-use dpch::Command;
-use run::Verdict;
+use run::Refusal;
 
 mod fields;
 
 // The checks of numbers and lengths before a slot is read.
-fn read_head(
+fn check_head(
     format: usize,
     slot: usize,
     slot_length: usize,
     tfci_length: usize,
     fbi_length: usize,
-) -> Verdict
-    ensures { result ≡ read_head format slot slot_length tfci_length fbi_length }
+) -> Result<(), Refusal>
+    ensures { verdict_of result ≡ read_head format slot slot_length tfci_length fbi_length }
 {
     let f = dpcch::format_of(format);
-    dpch::slot_head(
-        3,
-        format,
-        slot,
+    let right = [
         slot_length == f.slot,
         tfci_length == f.tfci,
         fbi_length == f.fbi,
-    )
+    ];
+    dpch::check_slot_head(3, format, slot, &right)
 }
 
-fn read_verdict(
+fn check(
     format: usize,
     slot: usize,
     xs: &[u8],
     tfci_length: usize,
     fbi_length: usize,
-) -> Verdict
-    ensures { result ≡ read_verdict format slot xs.now tfci_length fbi_length }
+) -> Result<(), Refusal>
+    ensures { verdict_of result ≡ read_verdict format slot xs.now tfci_length fbi_length }
 {
-    let head = read_head(format, slot, xs.len(), tfci_length, fbi_length);
-    if head.number != 0 {
-        return head;
-    }
+    check_head(format, slot, xs.len(), tfci_length, fbi_length)?;
     if dpcch_fits::fits(format, slot, xs) {
-        return Verdict {
-            number: 0,
-            place: 0,
-        };
+        return Ok(());
     }
-    dpcch_check::part_verdict(format, slot, xs, 0)
+    dpcch_check::check(format, slot, xs, 0)
 }
 
 // The fields of a slot with no look at their digits, and the command, where the lengths are the format's; else 0, and the runs as they were.
@@ -78,20 +71,16 @@ pub fn take(format: usize, xs: &[u8], tfci: &mut [u8], fbi: &mut [u8]) -> usize
     }
 }
 
-// The fields of a slot, or the refusal and the runs as they were.
-pub fn read(format: usize, slot: usize, xs: &[u8], tfci: &mut [u8], fbi: &mut [u8]) -> Command
-    ensures { Read format slot xs.now tfci.old fbi.old result tfci.new fbi.new }
+// The command of a slot, and its fields into the runs, or the refusal and the runs as they were.
+pub fn read(
+    format: usize,
+    slot: usize,
+    xs: &[u8],
+    tfci: &mut [u8],
+    fbi: &mut [u8],
+) -> Result<usize, Refusal>
+    ensures { Read format slot xs.now tfci.old fbi.old (command_of result) tfci.new fbi.new }
 {
-    let checked = read_verdict(format, slot, xs, tfci.len(), fbi.len());
-    if checked.number != 0 {
-        return Command {
-            verdict: checked,
-            tpc: 0,
-        };
-    }
-    let tpc = take(format, xs, tfci, fbi);
-    Command {
-        verdict: checked,
-        tpc,
-    }
+    check(format, slot, xs, tfci.len(), fbi.len())?;
+    Ok(take(format, xs, tfci, fbi))
 }

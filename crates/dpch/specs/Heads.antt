@@ -3,7 +3,7 @@
 -- compressed frames, which asks a row and a gap.
 -- Assumes nothing.
 use Rattle.std.specs.Prelude.{ℕ, Bool, List, leb}
-use Rattle.run.specs.declared.Verdict.{Verdict}
+use Rattle.run.specs.Verdict.{Verdict}
 use Rattle.run.specs.Refusals.{format_refused, slot_refused}
 use Rattle.run.specs.Verdicts.{or_else, unless, lengths}
 

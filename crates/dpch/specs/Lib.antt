@@ -6,4 +6,5 @@ pub mod Uplink
 pub mod UplinkPilots
 pub mod Layouts
 pub mod Heads
+pub mod Command
 pub mod Exact

@@ -2,11 +2,14 @@
 // The tables of the uplink's dedicated channels stand in specs/ too, so that what every layout obeys is said once.
 #![tactic(auto)]
 
-ghost use Rattle.std.specs.Prelude.{◌≡◌, [], ◌∷◌};
+ghost use Rattle.std.specs.Prelude.{◌≡◌, leb};
+ghost use Rattle.run.specs.Refusals.{format_refused};
+ghost use Rattle.run.specs.Verdicts.{unless};
+ghost use Rattle.run.specs.Answers.{verdict_of};
 ghost use Rattle.dpch.specs.Heads.{frame_head, slot_head};
 ghost use Rattle.dpch.specs.Formats.{row, no_row, format_of};
 
-use run::{Verdict, lengths, or_else, refusal, unless};
+use run::{Reason, Refusal, lengths_are, require};
 
 // The kinds of formats: the normal ones, those of frames compressed by higher layer scheduling, and those of frames compressed by a halved spreading factor.
 pub const NORMAL: usize = 0;
@@ -37,13 +40,6 @@ pub struct Dpcch {
     pub fbi: usize,
     pub tpc: usize,
     pub slot: usize,
-}
-
-// What a reader of slots answers: the TPC command, 0 where refused.
-#[derive(Clone, Copy)]
-pub struct Command {
-    pub verdict: Verdict,
-    pub tpc: usize,
 }
 
 // A row of the table's normal formats, in which all fifteen slots are transmitted.
@@ -106,33 +102,31 @@ pub fn format_of(n: usize) -> Format
     }
 }
 
-// The checks with which a call on a frame begins: the format, up to the last of the channel's table, then the lengths of four runs.
-pub fn frame_head(
-    last: usize,
-    format: usize,
-    first: bool,
-    second: bool,
-    third: bool,
-    fourth: bool,
-) -> Verdict
-    ensures { result ≡ frame_head last format (first ∷ second ∷ third ∷ fourth ∷ []) }
+// A format of the channel's table, whose last one is `last`.
+fn check_format(last: usize, format: usize) -> Result<(), Refusal>
+    ensures { verdict_of result ≡ unless (leb format last) format_refused 0 }
 {
-    let right = lengths(first, second, third, fourth);
-    or_else(unless(format <= last, refusal::FORMAT, 0), right)
+    require(format <= last, Reason::Format, 0)
 }
 
-// .. on a slot: the format, the slot's number, then the lengths of three runs.
-pub fn slot_head(
+// The checks with which a call on a frame begins: the format, then the lengths of the call's runs.
+pub fn check_frame_head(last: usize, format: usize, right: &[bool]) -> Result<(), Refusal>
+    ensures { verdict_of result ≡ frame_head last format right.now }
+{
+    check_format(last, format)?;
+    lengths_are(right)
+}
+
+// .. on a slot: the format, the slot's number, then the lengths.
+pub fn check_slot_head(
     last: usize,
     format: usize,
     slot: usize,
-    first: bool,
-    second: bool,
-    third: bool,
-) -> Verdict
-    ensures { result ≡ slot_head last format slot (first ∷ second ∷ third ∷ []) }
+    all_right: &[bool],
+) -> Result<(), Refusal>
+    ensures { verdict_of result ≡ slot_head last format slot all_right.now }
 {
-    let right = lengths(first, second, third, true);
-    let numbers = or_else(unless(slot <= 14, refusal::SLOT, 0), right);
-    or_else(unless(format <= last, refusal::FORMAT, 0), numbers)
+    check_format(last, format)?;
+    require(slot <= 14, Reason::Slot, 0)?;
+    lengths_are(all_right)
 }

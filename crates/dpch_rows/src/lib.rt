@@ -48,13 +48,7 @@ pub fn format_in(kind: usize, n: usize) -> Format
     if kind == NORMAL {
         return f;
     }
-    if KIND_B < kind {
-        return format_of(NONE);
-    }
-    if 16 < n {
-        return format_of(NONE);
-    }
-    if is_lacking(kind, n) {
+    if KIND_B < kind || 16 < n || is_lacking(kind, n) {
         return format_of(NONE);
     }
     row_beside(kind, f)
@@ -66,10 +60,8 @@ pub fn doubled_row(slot: usize) -> [u8; 32]
 {
     let row = dpch_pilot::pilot_row(0, slot);
     let mut doubled = [0; 32];
-    let mut k = 0;
-    while k < 32 {
+    for k in 0..32 {
         doubled[k] = row[k / 4 * 2 + k % 2];
-        k += 1;
     }
     doubled
 }

@@ -6,7 +6,7 @@ use Prim.Native.Nat.{ℕ, ◌*◌}
 use native.Mathlib.Nat.{one-mul}
 use native.Mathlib.Omega.{arith}
 use lib.ListN.{length}
-use Rattle.run.specs.declared.Verdict.{Verdict}
+use Rattle.run.specs.Verdict.{Verdict}
 use Rattle.run.specs.Parts.{part}
 use Rattle.run.specs.Verdicts.{done}
 use Rattle.run.proofs.Chain.{one_outcome}

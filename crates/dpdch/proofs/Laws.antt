@@ -1,16 +1,16 @@
 -- The digits of a slot and of a frame are its data, one after the other.
 -- Assumes nothing.
 use mathlib.Core.Path.{◌≡◌, refl, sym, ap, ◌∙◌}
-use mathlib.Core.Bool.{Bool, true, false}
+use mathlib.Core.Bool.{Bool, true, false, ◌&&◌, true≢false}
 use mathlib.Core.List.{List, [], ◌∷◌, append-nil}
-use Prim.Native.Nat.{ℕ, ◌*◌, ◌≤◌, ◌<◌}
+use Prim.Native.Nat.{ℕ, ◌*◌, ◌≤◌}
 use native.Mathlib.Nat.{mul-le-mul_right}
 use native.Mathlib.Omega.{arith}
-use borrow.Author.Tests.{eqb-true, eqb-false, eq-eqb}
-use lib.Dec.{eqb, lit<}
+use borrow.Author.Tests.{eqb-true, eqb-false}
+use lib.Dec.{eqb, leb, lit<}
 use lib.ListN.{length}
-use Rattle.run.specs.declared.Verdict.{Verdict}
-use Rattle.run.specs.First.{Every, at_most}
+use Rattle.run.specs.Verdict.{Verdict}
+use Rattle.run.specs.First.{all, Every, at_most}
 use Rattle.run.specs.Fields.{cut, joined, field}
 use Rattle.run.specs.Parts.{part}
 use Rattle.run.specs.Refusals.{tfci_refused}
@@ -18,6 +18,7 @@ use Rattle.run.specs.Table.{tab}
 use Rattle.run.specs.Verdicts.{leaves, Narrow}
 use Rattle.run.proofs.Chain.{or_else_done, each_done, or_else_narrow, each_narrow, leaves_done, leaves_refused}
 use Rattle.run.proofs.Fields.{joined_cut}
+use Rattle.run.proofs.Passing.{front_every}
 use Rattle.run.proofs.Never.{or_else_never, each_never}
 use Rattle.run.proofs.Parts.{part_length, joined_part}
 use Rattle.run.proofs.Table.{tab_same}
@@ -108,3 +109,11 @@ carried {slots} {format} {input} {out} {after} made plain c = side (eqb (slots_v
         let z = eqb-true _ _ t in
         c.out_is ∙ leaves_done _ _ _ z ∙ sym (leaves_done _ _ _ z ∙ plain (taken slots format input (length out) z).long)
     side false t = let z = eqb-false _ _ t in c.out_is ∙ leaves_refused _ _ _ z ∙ sym (leaves_refused _ _ _ z)
+
+-- a short run of bits
+pub few_bits : (s : List ℕ) (n : ℕ) {r : Bool} → r ≡ (eqb (length s) n && (leb n (length s) && all n (at_most 1 s))) → r ≡ true → Every (at_most 1 s) (length s)
+few_bits s n e t = side (eqb (length s) n) refl e t
+  where
+    side : (b : Bool) {r : Bool} → eqb (length s) n ≡ b → r ≡ (b && (leb n (length s) && all n (at_most 1 s))) → r ≡ true → Every (at_most 1 s) (length s)
+    side true k e t = front_every (length s) n (at_most 1 s) (eqb-true _ _ k) e t
+    side false k e t = absurd (true≢false (sym t ∙ e))

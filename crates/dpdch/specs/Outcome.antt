@@ -1,7 +1,7 @@
 -- docs/RULES.md, 'Uplink DPDCH': what each call answers and leaves in each lent run, for all inputs.
 -- Assumes nothing.
 use Rattle.std.specs.Prelude.{ℕ, ◌*◌, ◌≡◌, List, [], ◌∷◌, length, eqb}
-use Rattle.run.specs.declared.Verdict.{Verdict}
+use Rattle.run.specs.Verdict.{Verdict}
 use Rattle.run.specs.First.{at_most}
 use Rattle.run.specs.Refusals.{digit_refused}
 use Rattle.run.specs.Verdicts.{or_else, each, leaves}

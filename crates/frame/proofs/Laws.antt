@@ -1,22 +1,28 @@
 -- The slots of a frame: checked, written and taken one after the other.
 -- Assumes nothing.
-use mathlib.Core.Path.{◌≡◌, refl, ◌∙◌}
+use mathlib.Core.Path.{◌≡◌, refl, sym, ap, ◌∙◌}
 use mathlib.Core.List.{List}
 use Prim.Native.Nat.{ℕ, ◌+◌, ◌-◌, ◌*◌, ◌<◌}
 use native.Mathlib.Omega.{arith}
 use borrow.Rule.Slice.PartMut.{put_mid, mid_of}
 use lib.ListN.{length, get_or, take, drop}
-use Rattle.run.specs.declared.Verdict.{Verdict}
+use Rattle.std.specs.Prelude.{Result, Ok, Err}
+use Rattle.std.specs.Result.{IsErrAnd, result_unwrap_or}
+use Rattle.run.specs.Verdict.{Verdict}
+use Rattle.run.specs.declared.refusal.Refusal.{Refusal}
+use Rattle.run.specs.Answers.{number_of, verdict_of, value_of}
 use Rattle.run.specs.Parts.{part}
-use Rattle.run.specs.Verdicts.{leaves}
-use Rattle.run.proofs.Chain.{leaves_done, number_0}
+use Rattle.run.specs.Verdicts.{refused, chain, leaves}
+use Rattle.run.proofs.Answers as answers
+use Rattle.run.proofs.Answers.{refuses}
+use Rattle.run.proofs.Chain.{chain_hit, leaves_done, number_0}
 use Rattle.run.proofs.Frames as frames
 use Rattle.run.proofs.Frames.{all_slots, lent_part, lent_length, sized}
 use Rattle.run.proofs.Front.{Front}
 use Rattle.run.proofs.Parts.{part_length, part_lent}
 use Rattle.dpch.specs.declared.Format.{Format}
 use Rattle.dpch.specs.Formats.{format_of}
-use Rattle.dpch.specs.declared.Command.{Command}
+use Rattle.dpch.specs.Command.{Command}
 use Rattle.slot.specs.Rule.{data_size, slot_of, command_in}
 use Rattle.slot.specs.Outcome as slot-outcome
 use Rattle.slot.specs.Outcome.{fields_verdict, part_verdict, Take}
@@ -26,6 +32,16 @@ use Rattle.slot.proofs.Rows.{shape}
 use Rattle.frame.specs.Rule.{slot_at, frame_of, data_in, tfci_in, commands_in}
 use Rattle.frame.specs.Outcome.{slot_fields, slot_digits}
 use Rattle.frame.specs.Ready.{Room}
+
+-- slots that are checked one after the other: the first that is refused ends them
+pub slot_stops : {A : Type 0} (n : ℕ) (v : ℕ → Verdict) (k : ℕ) (r : Result A Refusal) (x : Refusal) → k < n → ((j : ℕ) → j < k → (v j).number ≡ 0)
+    → IsErrAnd r (λ e. e ≡ x) → refused (number_of x.reason) x.place ≡ v k → verdict_of r ≡ chain n v
+slot_stops n v k r x l before h e = answers.handed r x h ∙ e ∙ sym (chain_hit n v k l before (λ z. refuses x x.place (ap (λ (w : Verdict). w.number) e ∙ z)))
+
+-- the command that a reader answers, 0 where it refuses
+pub unwrapped : (r : Result ℕ Refusal) → result_unwrap_or r 0 ≡ value_of r
+unwrapped (Ok n) = refl
+unwrapped (Err x) = refl
 
 -- the k-th command, data and TFCI as they are lent: the checks of slot k
 pub fields_at : (f : Format) (d tfci commands : List ℕ) (k n m : ℕ) (r : Verdict) → n ≡ data_size f → m ≡ f.tfci

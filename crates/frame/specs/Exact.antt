@@ -1,7 +1,7 @@
 -- Demand 2 for a DPCH frame (docs/RULES.md, 'The demands' and 'DPCH slot'). Each statement is proved in proofs/Exact.antt under its name in small letters.
 -- Assumes nothing.
 use Rattle.std.specs.Prelude.{ℕ, ◌*◌, ◌<◌, ◌≤◌, ◌≡◌, List, ◌↔◌, length}
-use Rattle.run.specs.declared.Verdict.{Verdict}
+use Rattle.run.specs.Verdict.{Verdict}
 use Rattle.run.specs.Parts.{part}
 use Rattle.run.specs.Verdicts.{done, Narrow}
 use Rattle.dpch.specs.Formats.{format_of}

@@ -1,7 +1,7 @@
 -- docs/RULES.md, 'DPCH slot': what each call on a frame answers and leaves in each lent run, for all inputs.
 -- Assumes nothing.
 use Rattle.std.specs.Prelude.{ℕ, ◌*◌, ◌≡◌, List, [], ◌∷◌, length, get_or, eqb}
-use Rattle.run.specs.declared.Verdict.{Verdict}
+use Rattle.run.specs.Verdict.{Verdict}
 use Rattle.run.specs.Parts.{part}
 use Rattle.run.specs.Verdicts.{or_else, chain, leaves}
 use Rattle.dpch.specs.declared.Format.{Format}

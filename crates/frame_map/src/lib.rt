@@ -2,36 +2,38 @@
 #![tactic(auto)]
 
 ghost use Rattle.std.specs.Prelude.{◌≡◌};
+ghost use Rattle.run.specs.Answers.{verdict_of};
 ghost use Rattle.frame.specs.Outcome.{map_verdict, Map};
 
-use run::Verdict;
+use run::Refusal;
 
 mod slots;
 
-fn map_verdict(
+// The checks in their order.
+fn check(
     format: usize,
     data: &[u8],
     tfci: &[u8],
     out_length: usize,
     commands: &[u8],
-) -> Verdict
-    ensures { result ≡ map_verdict format «data».now tfci.now out_length commands.now }
+) -> Result<(), Refusal>
+    ensures { verdict_of result ≡ map_verdict format «data».now tfci.now out_length commands.now }
 {
-    let head = frame::map_head(format, data.len(), tfci.len(), out_length, commands.len());
-    if head.number != 0 {
-        return head;
-    }
+    frame::check_map_head(format, data.len(), tfci.len(), out_length, commands.len())?;
     slots::check_fields(format, data, tfci, commands)
 }
 
 // The frame of the fields, or the refusal and `out` as it was.
-pub fn map(format: usize, data: &[u8], tfci: &[u8], out: &mut [u8], commands: &[u8]) -> Verdict
-    ensures { Map format «data».now tfci.now out.old commands.now result out.new }
+pub fn map(
+    format: usize,
+    data: &[u8],
+    tfci: &[u8],
+    out: &mut [u8],
+    commands: &[u8],
+) -> Result<(), Refusal>
+    ensures { Map format «data».now tfci.now out.old commands.now (verdict_of result) out.new }
 {
-    let verdict = map_verdict(format, data, tfci, out.len(), commands);
-    if verdict.number != 0 {
-        return verdict;
-    }
+    check(format, data, tfci, out.len(), commands)?;
     slots::write(format, data, tfci, out, commands);
-    verdict
+    Ok(())
 }

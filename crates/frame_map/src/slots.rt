@@ -1,46 +1,37 @@
 // The fifteen slots of a frame, one after the other: each is lent its own part of every run.
 ghost use Rattle.std.specs.Prelude.{◌≡◌, length};
+ghost use Rattle.run.specs.Answers.{verdict_of};
 ghost use Rattle.run.specs.Verdicts.{chain};
 ghost use Rattle.dpch.specs.Formats.{format_of};
 ghost use Rattle.frame.specs.Rule.{frame_of};
 ghost use Rattle.frame.specs.Outcome.{slot_fields};
 ghost use Rattle.frame.specs.Ready.{Ready, Room};
 
-use run::Verdict;
+use run::Refusal;
 use slot::sizes_of;
 
 // The first slot whose command, TFCI or data is refused.
-pub(crate) fn check_fields(format: usize, data: &[u8], tfci: &[u8], commands: &[u8]) -> Verdict
+pub(crate) fn check_fields(
+    format: usize,
+    data: &[u8],
+    tfci: &[u8],
+    commands: &[u8],
+) -> Result<(), Refusal>
     requires { Ready format (length «data».now) (length tfci.now) (length commands.now) }
-    ensures { result ≡ chain 15 (slot_fields (format_of format) «data».now tfci.now commands.now) }
+    ensures { verdict_of result ≡ chain 15 (slot_fields (format_of format) «data».now tfci.now commands.now) }
 {
     let s = sizes_of(format);
     let n = s.data;
     let m = s.tfci;
-    let mut k = 0;
-    while k < 15 {
+    for k in 0..15 {
         let a = k * n;
         let e = a + n;
         let b = k * m;
         let c = b + m;
         let tpc = commands[k] as usize;
-        let verdict = slot_map::fields_verdict(
-            tpc,
-            &data[a..e],
-            &tfci[b..c],
-            k,
-            b as u32,
-            a as u32,
-        );
-        if verdict.number != 0 {
-            return verdict;
-        }
-        k += 1;
+        slot_map::check_fields(tpc, &data[a..e], &tfci[b..c], k, b as u32, a as u32)?;
     }
-    Verdict {
-        number: 0,
-        place: 0,
-    }
+    Ok(())
 }
 
 // Each slot into its part of the frame.
@@ -52,15 +43,15 @@ pub(crate) fn write(format: usize, data: &[u8], tfci: &[u8], out: &mut [u8], com
     let n = s.data;
     let m = s.tfci;
     let w = s.slot;
-    let mut slot = 0;
-    while slot < 15 {
+    for slot in 0..15 {
         let a = slot * n;
         let e = a + n;
         let b = slot * m;
         let c = b + m;
         let i = slot * w;
         let j = i + w;
-        slot_put::put(
+        // No slot is refused here: the frame's lengths are those of its slots.
+        let _ = slot_put::put(
             format,
             slot,
             commands[slot],
@@ -68,6 +59,5 @@ pub(crate) fn write(format: usize, data: &[u8], tfci: &[u8], out: &mut [u8], com
             &tfci[b..c],
             &mut out[i..j],
         );
-        slot += 1;
     }
 }

@@ -2,25 +2,24 @@
 #![tactic(auto)]
 
 ghost use Rattle.std.specs.Prelude.{◌≡◌};
+ghost use Rattle.run.specs.Answers.{verdict_of};
 ghost use Rattle.frame.specs.Outcome.{read_verdict, Read};
 
-use run::Verdict;
+use run::Refusal;
 
 mod slots;
 
-fn read_verdict(
+// The checks in their order.
+fn check(
     format: usize,
     xs: &[u8],
     data_length: usize,
     tfci_length: usize,
     commands_length: usize,
-) -> Verdict
-    ensures { result ≡ read_verdict format xs.now data_length tfci_length commands_length }
+) -> Result<(), Refusal>
+    ensures { verdict_of result ≡ read_verdict format xs.now data_length tfci_length commands_length }
 {
-    let head = frame::read_head(format, xs.len(), data_length, tfci_length, commands_length);
-    if head.number != 0 {
-        return head;
-    }
+    frame::check_read_head(format, xs.len(), data_length, tfci_length, commands_length)?;
     slots::check_digits(format, xs)
 }
 
@@ -31,13 +30,10 @@ pub fn read(
     data: &mut [u8],
     tfci: &mut [u8],
     commands: &mut [u8],
-) -> Verdict
-    ensures { Read format xs.now «data».old tfci.old commands.old result «data».new tfci.new commands.new }
+) -> Result<(), Refusal>
+    ensures { Read format xs.now «data».old tfci.old commands.old (verdict_of result) «data».new tfci.new commands.new }
 {
-    let verdict = read_verdict(format, xs, data.len(), tfci.len(), commands.len());
-    if verdict.number != 0 {
-        return verdict;
-    }
+    check(format, xs, data.len(), tfci.len(), commands.len())?;
     slots::take(format, xs, data, tfci, commands);
-    verdict
+    Ok(())
 }

@@ -1,35 +1,28 @@
 // The fifteen slots of a frame, one after the other: each is lent its own part of every run.
 ghost use Rattle.std.specs.Prelude.{◌≡◌, ◌*◌, length};
+ghost use Rattle.run.specs.Answers.{verdict_of};
 ghost use Rattle.run.specs.Verdicts.{chain};
 ghost use Rattle.dpch.specs.Formats.{format_of};
 ghost use Rattle.frame.specs.Rule.{data_in, tfci_in, commands_in};
 ghost use Rattle.frame.specs.Outcome.{slot_digits};
 ghost use Rattle.frame.specs.Ready.{Room, Bits};
 
-use run::Verdict;
+use run::Refusal;
 use slot::sizes_of;
 
 // The first slot whose digits are refused.
-pub(crate) fn check_digits(format: usize, xs: &[u8]) -> Verdict
+pub(crate) fn check_digits(format: usize, xs: &[u8]) -> Result<(), Refusal>
     requires { length xs.now ≡ 15 * (format_of format).slot }
-    ensures { result ≡ chain 15 (slot_digits (format_of format) xs.now) }
+    ensures { verdict_of result ≡ chain 15 (slot_digits (format_of format) xs.now) }
 {
     let s = sizes_of(format);
     let w = s.slot;
-    let mut k = 0;
-    while k < 15 {
+    for k in 0..15 {
         let i = k * w;
         let j = i + w;
-        let verdict = slot_check::part_verdict(format, k, &xs[i..j], i as u32);
-        if verdict.number != 0 {
-            return verdict;
-        }
-        k += 1;
+        slot_check::check_part(format, k, &xs[i..j], i as u32)?;
     }
-    Verdict {
-        number: 0,
-        place: 0,
-    }
+    Ok(())
 }
 
 // The fields of each slot into their parts of the runs.
@@ -41,16 +34,15 @@ pub(crate) fn take(format: usize, xs: &[u8], data: &mut [u8], tfci: &mut [u8], c
     let n = s.data;
     let m = s.tfci;
     let w = s.slot;
-    let mut k = 0;
-    while k < 15 {
+    for k in 0..15 {
         let a = k * n;
         let e = a + n;
         let b = k * m;
         let c = b + m;
         let i = k * w;
         let j = i + w;
+        // No slot is refused here: the frame's lengths are those of its slots.
         let taken = slot_read::take(format, k, &xs[i..j], &mut data[a..e], &mut tfci[b..c]);
-        commands[k] = taken.tpc as u8;
-        k += 1;
+        commands[k] = taken.unwrap_or(0) as u8;
     }
 }

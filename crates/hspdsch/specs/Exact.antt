@@ -1,7 +1,7 @@
 -- Demand 2 for the HS-PDSCH (docs/RULES.md, 'The demands' and 'HS-PDSCH'), and antenna 2 place by place. Each statement is proved in proofs/Exact.antt under its name in small letters.
 -- Assumes nothing.
 use Rattle.std.specs.Prelude.{ℕ, ◌+◌, ◌*◌, ◌≤◌, ◌<◌, ◌≡◌, List, ◌↔◌, length, get_or}
-use Rattle.run.specs.declared.Verdict.{Verdict}
+use Rattle.run.specs.Verdict.{Verdict}
 use Rattle.run.specs.Pairs.{PairGiven}
 use Rattle.run.specs.Verdicts.{done, Narrow}
 use Rattle.sttd.specs.Rule.{bar_digit}

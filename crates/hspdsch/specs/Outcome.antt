@@ -2,7 +2,7 @@
 -- Assumes nothing.
 use Rattle.std.specs.Prelude.{ℕ, ◌%◌, ◌≡◌, cond, ◌&&◌, List, [], ◌∷◌, eqb, length}
 use Rattle.std.specs.Int.Bits.{bit_xor}
-use Rattle.run.specs.declared.Verdict.{Verdict}
+use Rattle.run.specs.Verdict.{Verdict}
 use Rattle.run.specs.First.{at_most, agree}
 use Rattle.run.specs.Refusals.{digit_refused, frame_refused}
 use Rattle.run.specs.Verdicts.{or_else, each, leaves}

@@ -4,7 +4,7 @@
 
 ghost use Rattle.std.specs.Prelude.{◌≡◌, ◌%◌, length};
 ghost use Rattle.sttd.specs.Rule.{sttd};
-ghost use Rattle.hspdsch.specs.Rule.{picked, figure8_a, eights};
+ghost use Rattle.hspdsch.specs.Rule.{picked, figure8_a, coded};
 ghost use Rattle.hspdsch.specs.Outcome.{flip, encoded_over};
 
 // Two blocks of QPSK, figure 8. The bar of a bit is its other value. All are read before one is written: then they are written at once.
@@ -30,18 +30,6 @@ fn encode_two_fours(input: &[u8], out: &mut [u8])
     out[7] = b5 ^ 1;
 }
 
-fn encode_fours(input: &[u8], out: &mut [u8])
-    requires { (length input.now % 8 ≡ 0) × (length out.old ≡ length input.now) }
-    ensures { out.new ≡ sttd flip input.now }
-{
-    let mut i = 0;
-    while i < input.len() {
-        let e = i + 8;
-        encode_two_fours(&input[i..e], &mut out[i..e]);
-        i = e;
-    }
-}
-
 // One block of 16QAM, figure 8A.
 fn encode_eight(input: &[u8], out: &mut [u8])
     requires { (length input.now ≡ 8) × (length out.old ≡ 8) }
@@ -65,14 +53,28 @@ fn encode_eight(input: &[u8], out: &mut [u8])
     out[7] = b3;
 }
 
-fn encode_eights(input: &[u8], out: &mut [u8])
+// Eight digits of a format.
+fn encode_one<const FORMAT: usize>(input: &[u8], out: &mut [u8])
+    requires { (length input.now ≡ 8) × (length out.old ≡ 8) }
+    ensures { out.new ≡ coded flip FORMAT input.now }
+{
+    if FORMAT == 0 {
+        encode_two_fours(input, out);
+    } else {
+        encode_eight(input, out);
+    }
+}
+
+// Eight digits after eight. The format is a constant: so each format has a loop without a jump. The index is counted by hand: of `for k in 0..n / 8` the compiler takes
+// two eights at a time and not four, which costs a fifth more.
+fn encode_all<const FORMAT: usize>(input: &[u8], out: &mut [u8])
     requires { (length input.now % 8 ≡ 0) × (length out.old ≡ length input.now) }
-    ensures { out.new ≡ eights flip input.now }
+    ensures { out.new ≡ coded flip FORMAT input.now }
 {
     let mut i = 0;
     while i < input.len() {
         let e = i + 8;
-        encode_eight(&input[i..e], &mut out[i..e]);
+        encode_one::<FORMAT>(&input[i..e], &mut out[i..e]);
         i = e;
     }
 }
@@ -81,15 +83,12 @@ fn encode_eights(input: &[u8], out: &mut [u8])
 pub fn encode(format: usize, input: &[u8], out: &mut [u8])
     ensures { out.new ≡ encoded_over format input.now out.old }
 {
-    if input.len() % 8 != 0 {
-        return;
-    }
-    if out.len() != input.len() {
+    if input.len() % 8 != 0 || out.len() != input.len() {
         return;
     }
     if format == 0 {
-        encode_fours(input, out);
-        return;
+        encode_all::<0>(input, out);
+    } else {
+        encode_all::<1>(input, out);
     }
-    encode_eights(input, out);
 }

@@ -7,7 +7,7 @@ use Prim.Native.Nat.{ℕ, ◌≤◌}
 use native.Mathlib.Omega.{arith}
 use borrow.Author.Tests.{leb-true, le-leb}
 use lib.Dec.{eqb}
-use Rattle.run.specs.declared.Verdict.{Verdict}
+use Rattle.run.specs.Verdict.{Verdict}
 use Rattle.run.proofs.Chain.{or_else_done, unless_pass, leaves_done, number_0}
 use Rattle.lines.specs.Outcome.{line_size, room, Prints}
 use Rattle.lines.proofs.Checks.{room_done}

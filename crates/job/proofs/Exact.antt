@@ -9,7 +9,7 @@ use borrow.Author.Tests.{eqb-true, eqb-false}
 use lib.Dec.{eqb}
 use lib.ListN.{length, take, drop, replicate, length-replicate}
 use lib.Seq.{take_at}
-use Rattle.run.specs.declared.Verdict.{Verdict}
+use Rattle.run.specs.Verdict.{Verdict}
 use Rattle.run.specs.First.{first_bad}
 use Rattle.run.specs.Fields.{joined}
 use Rattle.run.specs.Table.{tab}
@@ -26,8 +26,8 @@ use Rattle.lines.specs.Rule.{head_line, dpch_line, record_line, refusal_line}
 use Rattle.lines.specs.Text.{decimal_by, decimal, glyph, glyphs, put}
 use Rattle.lines.specs.Outcome.{line_size, room, mapper_verdict, Prints}
 use Rattle.lines.proofs.Exact.{prints_once}
-use Rattle.job.specs.declared.Opened.{Opened}
-use Rattle.job.specs.declared.Ran.{Ran}
+use Rattle.job.specs.Answers.{Opened}
+use Rattle.job.specs.Answers.{Ran}
 use Rattle.job.specs.Rule.{version_in, is_version, width_of, limit_of, count_in, first_record, size_in, record_in}
 use Rattle.job.specs.Faults.{verdict_of, check}
 use Rattle.job.specs.Outcome.{within, reach, present, byte_is, length_verdict, kind_head, record_head, head_verdict, record_verdict, end_verdict, open_verdict, run_verdict, Open, Run}

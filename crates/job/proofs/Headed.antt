@@ -1,6 +1,6 @@
 -- A record whose head passed its checks: its bytes are all in the window, and what is left is the mapper's verdict.
 -- Assumes nothing.
-use mathlib.Core.Path.{◌≡◌, refl, sym, ap₂, ◌∙◌}
+use mathlib.Core.Path.{◌≡◌, refl, sym, ap, ap₂, ◌∙◌}
 use mathlib.Core.Bool.{Bool, true, false}
 use mathlib.Core.List.{List}
 use Prim.Native.Nat.{ℕ, ◌+◌, ◌-◌, ◌≤◌, ◌<◌}
@@ -9,17 +9,23 @@ use borrow.Author.Tests.{eqb-true, eqb-false, ltb-true}
 use lib.Dec.{eqb}
 use lib.ListN.{length, get_or, take, drop}
 use lib.Seq.{get_or-take, length-take-le}
-use Rattle.run.specs.declared.Verdict.{Verdict}
-use Rattle.run.specs.Verdicts.{or_else, leaves}
+use Rattle.std.specs.Prelude.{Result, Ok, Err}
+use Rattle.std.specs.Result.{IsErrAnd}
+use Rattle.run.specs.Verdict.{Verdict}
+use Rattle.run.specs.declared.refusal.Refusal.{Refusal}
+use Rattle.run.proofs.Answers.{refuses, left}
+use Rattle.run.specs.Verdicts.{done, or_else, leaves}
 use Rattle.run.proofs.Chain.{five_done, or_else_done, or_else_next, unless_pass, leaves_done, leaves_refused, number_0}
-use Rattle.lines.specs.declared.Told.{Told}
+use Rattle.lines.specs.Answers.{Told, verdict_in}
 use Rattle.kinds.specs.Rule.{is_kind, second_verdict}
 use Rattle.lines.specs.Outcome.{room, is_whole, line_verdict, Record}
 use Rattle.kinds.proofs.ByKind.{size_some}
 use Rattle.lines.proofs.Checks.{then_refused, then_next}
 use Rattle.lines.proofs.Records.{prints_refused, is_whole_lem}
-use Rattle.job.specs.declared.Opened.{Opened}
-use Rattle.job.specs.declared.Ran.{Ran}
+use Rattle.job.specs.declared.Opened.{Opened as WasOpened}
+use Rattle.job.specs.Answers.{Opened, opened_of}
+use Rattle.job.specs.declared.Ran.{Ran as WasRun}
+use Rattle.job.specs.Answers.{Ran, ran_of}
 use Rattle.job.specs.Rule.{version_in, width_of, size_in, record_in}
 use Rattle.job.specs.Outcome.{present, head_verdict, kind_head, record_head, record_verdict, open_verdict, run_verdict, Open, Run}
 use Rattle.job.proofs.Checks.{check_done, reach_done}
@@ -88,6 +94,42 @@ module _ (limit offset : ℕ) (window line : List ℕ) {t : Verdict} (e : t ≡ 
       let is = run_is h in
       let v : told.verdict ≡ run_verdict limit offset window (length line) = r.verdict_is ∙ is in
       rw a (record { verdict_is = v; size_is = ap₂ (λ (w : Verdict) (n : ℕ). leaves w n 0) v s; prints = rw (← is) r.prints })
+
+-- .. in the words of a call that hands a refusal on
+ran_refused : (a : Result WasRun Refusal) (x : Refusal) → IsErrAnd a (λ e. e ≡ x) → ran_of a ≡ record { verdict = verdict_in x; size = 0; length = 0 }
+ran_refused (Ok r) x h = absurd h
+ran_refused (Err e) x h = rw h
+
+pub run_left : (limit offset : ℕ) (window line : List ℕ) (a : Result WasRun Refusal) (x : Refusal) → IsErrAnd a (λ e. e ≡ x)
+    → verdict_in x ≡ or_else (room 1 (length line)) (record_head limit offset window) → Run limit offset window line (ran_of a) line
+run_left limit offset window line a x h e = rw (ran_refused a x h) (run_refused limit offset window line e (refuses x x.place))
+
+pub run_told_left : (limit offset : ℕ) (window line : List ℕ) (a : Result WasRun Refusal) (x : Refusal) {size : ℕ} {line' : List ℕ} → IsErrAnd a (λ e. e ≡ x)
+    → done ≡ or_else (room 1 (length line)) (record_head limit offset window) → size ≡ size_in window
+    → Record (record_in window) line (record { verdict = verdict_in x; length = 0 }) line' → Run limit offset window line (ran_of a) line'
+run_told_left limit offset window line a x {size} h e s r =
+    run_told limit offset window line e refl s r (ran_refused a x h ∙ rw (leaves_refused (verdict_in x) size 0 (refuses x x.place)))
+
+opened_refused : (a : Result WasOpened Refusal) (x : Refusal) → IsErrAnd a (λ e. e ≡ x)
+    → opened_of a ≡ record { verdict = verdict_in x; limit = 0; count = 0; next = 0; length = 0 }
+opened_refused (Ok o) x h = absurd h
+opened_refused (Err e) x h = rw h
+
+pub open_left : (window line : List ℕ) (a : Result WasOpened Refusal) (x : Refusal) → IsErrAnd a (λ e. e ≡ x) → verdict_in x ≡ open_verdict window (length line)
+    → Open window line (opened_of a) line
+open_left window line a x h e =
+    rw (opened_refused a x h)
+    (record {
+      verdict_is = e;
+      limit_is = left x _ 0 e;
+      count_is = left x _ 0 e;
+      next_is = left x _ 0 e;
+      prints = rw (sym e) (prints_refused (verdict_in x) _ line (refuses x x.place));
+    })
+
+-- a call whose checks pass does not refuse
+pub never : (x : Refusal) {v : Verdict} → verdict_in x ≡ v → v.number ≡ 0 → ⊥
+never x {v} e h = refuses x x.place (ap (λ (w : Verdict). w.number) e ∙ h)
 
 -- what was opened or run lies within its window
 pub run_fits : {limit offset : ℕ} {window line : List ℕ} {answer : Ran} {line' : List ℕ} → Run limit offset window line answer line' → answer.size ≤ length window

@@ -3,13 +3,13 @@
 use mathlib.Core.Path.{◌≡◌, refl, sym, ap, ◌∙◌}
 use mathlib.Core.Bool.{Bool, true, false, cond}
 use mathlib.Core.List.{List, [], ◌∷◌, ◌++◌, append-nil}
-use Prim.Native.Nat.{ℕ, zero, suc, ◌+◌, ◌*◌, ◌≤◌, ◌<◌, min}
+use Prim.Native.Nat.{ℕ, zero, suc, ◌+◌, ◌≤◌, ◌<◌, min}
 use native.Mathlib.Omega.{arith}
 use borrow.Author.Tests.{eqb-true, eqb-false, eq-eqb, leb-true, leb-false, le-leb, lt-leb, lt-ltb}
 use lib.Dec.{eqb, leb}
 use lib.ListN.{length, get_or, drop, length-append, get_or-append}
 use lib.Seq.{take-append-le}
-use Rattle.run.specs.declared.Verdict.{Verdict}
+use Rattle.run.specs.Verdict.{Verdict}
 use Rattle.run.specs.Verdicts.{or_else}
 use Rattle.run.proofs.Chain.{or_else_refused}
 use Rattle.kinds.specs.Rule.{is_kind, second_verdict}
@@ -238,5 +238,5 @@ module _ (window behind : List ℕ) (holds : min (0 + head_asks window) (suc (li
       record { verdict = verdict_same; version = sym (header_byte 4 (omega arith)); count = count_same (width_of (version_in window)) (omega arith) }
 
 pub window_opens : WindowOpens
-window_opens file window w =
+window_opens _ window w =
     by_window w (SameHead window) (record { verdict = refl; version = refl; count = refl }) (λ behind h. same_head window behind h)

@@ -2,11 +2,11 @@
 -- letters.
 -- Assumes nothing.
 use Rattle.std.specs.Prelude.{ℕ, suc, ◌+◌, ◌≤◌, ◌≡◌, List, [], ◌∷◌, ◌++◌, ◌↔◌, length, take}
-use Rattle.run.specs.declared.Verdict.{Verdict}
-use Rattle.lines.specs.declared.Told.{Told}
+use Rattle.run.specs.Verdict.{Verdict}
+use Rattle.lines.specs.Answers.{Told}
 use Rattle.lines.specs.Outcome.{line_size, Tell}
-use Rattle.job.specs.declared.Opened.{Opened}
-use Rattle.job.specs.declared.Ran.{Ran}
+use Rattle.job.specs.Answers.{Opened}
+use Rattle.job.specs.Answers.{Ran}
 use Rattle.job.specs.Outcome.{end_verdict, Open, Run}
 use Rattle.job.specs.Windows.{record_asks, Window, First}
 use Rattle.job.specs.Printed.{printed}

@@ -1,7 +1,7 @@
 -- docs/RULES.md, 'Job file and program': what can be wrong with a job file itself, and the number and offset of each case.
 -- Assumes nothing.
-use Rattle.std.specs.Prelude.{ℕ, Bool, cond}
-use Rattle.run.specs.declared.Verdict.{Verdict}
+use Rattle.std.specs.Prelude.{Bool, cond}
+use Rattle.run.specs.Verdict.{Verdict}
 use Rattle.run.specs.Refusals.{over_long_refused, mark_refused, version_refused, kind_refused, ends_early_refused, bytes_after_refused}
 use Rattle.run.specs.Verdicts.{refused, done}
 use Rattle.job.specs.declared.fault.Fault.{Fault}

@@ -1,4 +1,5 @@
 pub mod Faults
+pub mod Answers
 pub mod Rule
 pub mod Outcome
 pub mod Printed

@@ -2,13 +2,13 @@
 -- at a byte of it, the offset. It answers for a file that ends where the window does; specs/Windows.antt says when that is what the whole file is told.
 -- Assumes nothing.
 use Rattle.std.specs.Prelude.{ℕ, ◌+◌, min, ◌≡◌, Bool, cond, List, eqb, leb, ltb, length, get_or}
-use Rattle.run.specs.declared.Verdict.{Verdict}
+use Rattle.run.specs.Verdict.{Verdict}
 use Rattle.run.specs.Verdicts.{done, or_else, leaves}
 use Rattle.kinds.specs.Rule.{is_kind, second_verdict}
 use Rattle.lines.specs.Rule.{head_line, record_line}
 use Rattle.lines.specs.Outcome.{room, mapper_verdict, Prints}
-use Rattle.job.specs.declared.Opened.{Opened}
-use Rattle.job.specs.declared.Ran.{Ran}
+use Rattle.job.specs.Answers.{Opened}
+use Rattle.job.specs.Answers.{Ran}
 use Rattle.job.specs.declared.fault.Fault.{Fault}
 use Rattle.job.specs.declared.fault.Fault.TheVariants.{OverLong, WrongMark, UnknownVersion, UnknownKind, EndsEarly, BytesAfter}
 use Rattle.job.specs.Faults.{check}

@@ -1,8 +1,10 @@
 // What can be wrong with a job file itself, by name; a mapper's refusals are its own.
 ghost use Rattle.std.specs.Prelude.{◌≡◌};
-ghost use Rattle.job.specs.Faults.{verdict_of, check};
+ghost use Rattle.run.specs.Answers.{verdict_of as told};
+ghost use Rattle.job.specs.Faults.{check};
+ghost use Rattle.job.specs.Answers.{Refuses};
 
-use run::{Verdict, refusal, unless};
+use run::{Reason, Refusal};
 
 // Each fault knows its offset in the file.
 #[derive(Clone, Copy)]
@@ -21,30 +23,28 @@ pub enum Fault {
     BytesAfter(usize),
 }
 
-fn bad_file(number: usize, place: usize) -> Verdict
-    ensures { result ≡ record { number = number; place = place } }
-{
-    Verdict { number, place }
-}
+// The reason and the place that a fault is refused with.
+impl From<Fault> for Refusal {
+    ghost from_gives = { Refuses };
 
-// The number and the place that a fault is refused with.
-fn verdict_of(fault: Fault) -> Verdict
-    ensures { result ≡ verdict_of fault }
-{
-    match fault {
-        Fault::OverLong(at) => bad_file(refusal::OVER_LONG, at),
-        Fault::WrongMark(at) => bad_file(refusal::MARK, at),
-        Fault::UnknownVersion(at) => bad_file(refusal::VERSION, at),
-        Fault::UnknownKind(at) => bad_file(refusal::KIND, at),
-        Fault::EndsEarly(at) => bad_file(refusal::ENDS_EARLY, at),
-        Fault::BytesAfter(at) => bad_file(refusal::BYTES_AFTER, at),
+    #[tactic(auto, unfolding(crate::specs::Faults::verdict_of))]
+    fn from(fault: Fault) -> Refusal {
+        let (reason, place) = match fault {
+            Fault::OverLong(at) => (Reason::OverLong, at),
+            Fault::WrongMark(at) => (Reason::Mark, at),
+            Fault::UnknownVersion(at) => (Reason::Version, at),
+            Fault::UnknownKind(at) => (Reason::Kind, at),
+            Fault::EndsEarly(at) => (Reason::EndsEarly, at),
+            Fault::BytesAfter(at) => (Reason::BytesAfter, at),
+        };
+        Refusal { reason, place }
     }
 }
 
 // Refused for the fault where the test fails.
-pub fn check(ok: bool, fault: Fault) -> Verdict
-    ensures { result ≡ check ok fault }
+#[tactic(auto, unfolding(crate::specs::Faults::check))]
+pub fn check(ok: bool, fault: Fault) -> Result<(), Refusal>
+    ensures { told result ≡ check ok fault }
 {
-    let v = verdict_of(fault);
-    unless(ok, v.number, v.place)
+    if ok { Ok(()) } else { Err(fault.into()) }
 }

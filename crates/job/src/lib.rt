@@ -4,24 +4,20 @@
 
 ghost use Rattle.std.specs.Prelude.{◌≡◌, get_or};
 
-use run::Verdict;
-
 pub mod fault;
 
-// What `job_open::open` answers: how many bytes the file may have, the number of records, where the first begins, and how long the line is; 0 where refused.
+// What `job_open::open` answers where it is done: how many bytes the file may have, the number of records, where the first begins, and how long the line is.
 #[derive(Clone, Copy)]
 pub struct Opened {
-    pub verdict: Verdict,
     pub limit: u32,
     pub count: usize,
     pub next: usize,
     pub length: usize,
 }
 
-// What `job_run::run` answers: how many bytes the record has, and how long the line is; 0 where refused.
+// What `job_run::run` answers where it is done: how many bytes the record has, and how long the line is.
 #[derive(Clone, Copy)]
 pub struct Ran {
-    pub verdict: Verdict,
     pub size: usize,
     pub length: usize,
 }
@@ -30,5 +26,5 @@ pub struct Ran {
 pub fn byte_at(window: &[u8], at: usize) -> u8
     ensures { result ≡ get_or window.now «at» 0 }
 {
-    if at < window.len() { window[at] } else { 0 }
+    window.get(at).copied().unwrap_or(0)
 }

@@ -2,33 +2,35 @@
 #![tactic(auto)]
 
 ghost use Rattle.std.specs.Prelude.{◌≡◌};
+ghost use Rattle.run.specs.Answers.{verdict_of};
+ghost use Rattle.job.specs.Answers.{opened_of};
 ghost use Rattle.job.specs.Rule.{is_version, width_of, limit_of, count_in};
 ghost use Rattle.job.specs.Outcome.{present, byte_is, length_verdict, head_verdict, open_verdict, Open};
 
 use job::fault::{Fault, check};
 use job::{Opened, byte_at};
 use lines::LINE;
-use run::{Verdict, or_else, refusal, unless};
+use run::{Reason, Refusal, require};
 
-fn present(file: &[u8], at: usize) -> Verdict
-    ensures { result ≡ present file.now «at» }
+#[tactic(auto, unfolding(job::specs::Outcome::present))]
+fn present(file: &[u8], at: usize) -> Result<(), Refusal>
+    ensures { verdict_of result ≡ present file.now «at» }
 {
     check(at < file.len(), Fault::EndsEarly(file.len()))
 }
 
-fn byte_is(file: &[u8], at: usize, ok: bool, fault: Fault) -> Verdict
-    ensures { result ≡ byte_is file.now «at» ok fault }
+fn byte_is(file: &[u8], at: usize, ok: bool, fault: Fault) -> Result<(), Refusal>
+    ensures { verdict_of result ≡ byte_is file.now «at» ok fault }
 {
-    or_else(present(file, at), check(ok, fault))
+    present(file, at)?;
+    check(ok, fault)
 }
 
+#[tactic(auto, unfolding(job::specs::Rule::is_version))]
 fn is_version(version: u8) -> bool
     ensures { result ≡ is_version version }
 {
-    match version {
-        1 | 2 => true,
-        _ => false,
-    }
+    version == 1 || version == 2
 }
 
 // How many bytes count the records.
@@ -46,53 +48,35 @@ fn limit_of(version: u8) -> u32
 }
 
 // Version 1 asks for the whole file's length before its records.
-fn length_verdict(version: u8, size: usize) -> Verdict
-    ensures { result ≡ length_verdict version size }
+fn check_length(version: u8, size: usize) -> Result<(), Refusal>
+    ensures { verdict_of result ≡ length_verdict version size }
 {
-    let limit = limit_of(version) as usize;
     if version == 1 {
+        let limit = limit_of(version) as usize;
         return check(size <= limit, Fault::OverLong(limit));
     }
-    Verdict {
-        number: 0,
-        place: 0,
-    }
+    Ok(())
 }
 
 // The mark, the version with its high byte first, version 1's length, and a count.
-fn head_verdict(file: &[u8]) -> Verdict
-    ensures { result ≡ head_verdict file.now }
+fn check_head(file: &[u8]) -> Result<(), Refusal>
+    ensures { verdict_of result ≡ head_verdict file.now }
 {
     let version = byte_at(file, 4);
-    let count = present(file, 4 + width_of(version));
-    let long = or_else(length_verdict(version, file.len()), count);
-    let low = or_else(
-        byte_is(file, 4, is_version(version), Fault::UnknownVersion(4)),
-        long,
-    );
-    let high = or_else(
-        byte_is(file, 3, byte_at(file, 3) == 0, Fault::UnknownVersion(3)),
-        low,
-    );
-    let t = or_else(
-        byte_is(file, 2, byte_at(file, 2) == 84, Fault::WrongMark(2)),
-        high,
-    );
-    let l = or_else(
-        byte_is(file, 1, byte_at(file, 1) == 76, Fault::WrongMark(1)),
-        t,
-    );
-    or_else(
-        byte_is(file, 0, byte_at(file, 0) == 83, Fault::WrongMark(0)),
-        l,
-    )
+    byte_is(file, 0, byte_at(file, 0) == b'S', Fault::WrongMark(0))?;
+    byte_is(file, 1, byte_at(file, 1) == b'L', Fault::WrongMark(1))?;
+    byte_is(file, 2, byte_at(file, 2) == b'T', Fault::WrongMark(2))?;
+    byte_is(file, 3, byte_at(file, 3) == 0, Fault::UnknownVersion(3))?;
+    byte_is(file, 4, is_version(version), Fault::UnknownVersion(4))?;
+    check_length(version, file.len())?;
+    present(file, 4 + width_of(version))
 }
 
-fn open_verdict(file: &[u8], line_length: usize) -> Verdict
-    ensures { result ≡ open_verdict file.now line_length }
+fn check_open(file: &[u8], line_length: usize) -> Result<(), Refusal>
+    ensures { verdict_of result ≡ open_verdict file.now line_length }
 {
-    let room = unless(LINE <= line_length, refusal::LENGTH, 1);
-    or_else(room, head_verdict(file))
+    require(LINE <= line_length, Reason::Length, 1)?;
+    check_head(file)
 }
 
 // The number of records, whose high byte is first where it has two.
@@ -108,27 +92,17 @@ fn count_in(file: &[u8], version: u8) -> u16
 }
 
 // The header's line and the number of records, or the refusal and the line as it was.
-pub fn open(window: &[u8], line: &mut [u8]) -> Opened
-    ensures { Open window.now line.old result line.new }
+pub fn open(window: &[u8], line: &mut [u8]) -> Result<Opened, Refusal>
+    ensures { Open window.now line.old (opened_of result) line.new }
 {
-    let verdict = open_verdict(window, line.len());
-    if verdict.number != 0 {
-        return Opened {
-            verdict,
-            limit: 0,
-            count: 0,
-            next: 0,
-            length: 0,
-        };
-    }
+    check_open(window, line.len())?;
     let version = byte_at(window, 4);
     let count = count_in(window, version);
-    let told = lines::head(version, count, line);
-    Opened {
-        verdict,
+    let length = lines::head(version, count, line)?;
+    Ok(Opened {
         limit: limit_of(version),
         count: count as usize,
         next: 5 + width_of(version),
-        length: told.length,
-    }
+        length,
+    })
 }

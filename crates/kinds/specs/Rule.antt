@@ -1,13 +1,12 @@
 -- docs/RULES.md, 'Job file and program': the kinds of a record, what the byte behind each must be, and how long a record is.
 -- Assumes nothing.
 use Rattle.std.specs.Prelude.{ℕ, ◌+◌, Bool, cond, ◌||◌, eqb, leb}
-use Rattle.run.specs.declared.Verdict.{Verdict}
+use Rattle.run.specs.Verdict.{Verdict}
 use Rattle.run.specs.Refusals.{format_refused, np_refused}
 use Rattle.run.specs.Verdicts.{done, unless}
 use Rattle.dpch.specs.Formats.{format_of}
 use Rattle.slot.specs.Rule.{data_size}
 use Rattle.pich.specs.Rule.{is_np}
-use Rattle.kinds.specs.declared.Shape.{Shape}
 
 -- kind 1 is AICH, 2 is PICH, 3 is DPCH
 abbrev pub aich_kind : ℕ
@@ -35,6 +34,11 @@ size_of kind second = by_kind kind 17 (2 + second) (4 + (format_of second).tfci 
 unfoldable pub second_verdict : ℕ → ℕ → Verdict
 second_verdict kind second = by_kind kind done (unless (is_np second) np_refused 0) (unless (leb second 16) format_refused 0)
 
--- shape_of: what a record's first two bytes say
+-- shape_of: what a record's first two bytes say: whether there is such a kind, what is wrong with the byte behind it, and how many bytes it has
+pub record Shape : Type 0 where
+  pub known : Bool
+  pub verdict : Verdict
+  pub size : ℕ
+
 unfoldable pub shape_of : ℕ → ℕ → Shape
 shape_of kind second = record { known = is_kind kind; verdict = second_verdict kind second; size = size_of kind second }

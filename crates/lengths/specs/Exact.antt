@@ -1,7 +1,7 @@
 -- The lengths told are those that the mappers ask for. Each theorem is proved in proofs/Exact.antt under its name in small letters.
 -- Assumes nothing.
 use Rattle.std.specs.Prelude.{ℕ, ◌<◌, ◌≡◌, Bool, List, [], ◌∷◌, length, get_or, eqb, leb}
-use Rattle.run.specs.declared.Verdict.{Verdict}
+use Rattle.run.specs.Verdict.{Verdict}
 use Rattle.run.specs.First.{at_most}
 use Rattle.run.specs.Refusals.{format_refused, slot_refused, range_refused, digit_refused}
 use Rattle.run.specs.Verdicts.{or_else, unless, each, lengths, Narrow}
@@ -15,7 +15,7 @@ use Rattle.compressed.specs.Outcome.{gap_head}
 use Rattle.dpdch.specs.Outcome as dpdch
 use Rattle.dpcch.specs.Outcome as dpcch
 use Rattle.hspdsch.specs.Outcome as hspdsch
-use Rattle.lengths.specs.declared.Length.{Length}
+use Rattle.lengths.specs.Length.{Length}
 use Rattle.lengths.specs.Rule.{slot_lengths_of, frame_lengths_of, compressed_lengths_of, dpdch_lengths_of, dpcch_lengths_of, dpcch_frame_lengths_of, hspdsch_lengths_of}
 use Rattle.lengths.specs.Outcome.{told_verdict, Told}
 

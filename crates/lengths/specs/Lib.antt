@@ -1,3 +1,4 @@
+pub mod Length
 pub mod Rule
 pub mod Outcome
 pub mod Exact

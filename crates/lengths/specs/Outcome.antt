@@ -1,10 +1,10 @@
 -- docs/RULES.md, 'Lengths of runs': what each call answers, for all inputs. Nothing is lent.
 -- Assumes nothing.
 use Rattle.std.specs.Prelude.{ℕ, ◌≡◌, List, length, get_or, ltb}
-use Rattle.run.specs.declared.Verdict.{Verdict}
+use Rattle.run.specs.Verdict.{Verdict}
 use Rattle.run.specs.Refusals.{range_refused}
 use Rattle.run.specs.Verdicts.{or_else, unless, leaves}
-use Rattle.lengths.specs.declared.Length.{Length}
+use Rattle.lengths.specs.Length.{Length}
 
 -- what the mapper refuses before it looks at lengths, but for the slot's number, which no length hangs on: 1, of a compressed frame also 27; then 11 for a run that there is not
 unfoldable pub told_verdict : Verdict → List ℕ → ℕ → Verdict

@@ -5,7 +5,7 @@ use mathlib.Core.Bool.{Bool, true, false}
 use Prim.Native.Nat.{ℕ, ◌≤◌}
 use borrow.Author.Tests.{leb-true}
 use lib.Dec.{eqb, lit<}
-use Rattle.run.specs.declared.Verdict.{Verdict}
+use Rattle.run.specs.Verdict.{Verdict}
 use Rattle.run.specs.Verdicts.{or_else}
 use Rattle.run.proofs.Chain.{or_else_refused, or_else_next, unless_done}
 use Rattle.lines.specs.Outcome.{line_size, room}

@@ -7,12 +7,17 @@ use Prim.Native.Nat.{ℕ, ◌+◌, ◌-◌, ◌≤◌, ◌<◌}
 use native.Mathlib.Nat.{zero-add}
 use native.Mathlib.Omega.{arith}
 use borrow.Rule.Slice.PartMut.{put_mid, mid_of, mid_len}
-use borrow.Author.Tests.{leb-true, eqb-true, eqb-false, eq-eqb}
+use borrow.Author.Tests.{leb-true, eqb-true, eqb-false, eq-eqb, ne_eqb}
 use lib.Dec.{eqb, lit<}
 use lib.IntN.{ℤ, pos}
 use lib.ListN.{length, get_or, take, drop, length-append, length-drop}
 use lib.Seq.{take_all, take_at}
-use Rattle.run.specs.declared.Verdict.{Verdict}
+use Rattle.std.specs.Prelude.{Result, Ok, Err, is_ok}
+use Rattle.std.specs.Result.{IsErrAnd, result_unwrap_or}
+use Rattle.run.specs.Verdict.{Verdict}
+use Rattle.run.specs.declared.refusal.Refusal.{Refusal}
+use Rattle.run.specs.Answers.{verdict_of}
+use Rattle.run.proofs.Answers.{refuses}
 use Rattle.run.specs.Refusals.{length_refused}
 use Rattle.run.specs.Verdicts.{or_else, unless}
 use Rattle.run.proofs.Bools.{and_left, and_right}
@@ -31,9 +36,14 @@ use Rattle.aich.specs.Outcome.{Map as AichMap}
 use Rattle.aich.specs.Exact.{Sized}
 use Rattle.aich.proofs.Checks.{taken}
 use Rattle.aich.proofs.Exact.{units_sized}
+use Rattle.kinds.specs.declared.Kind.{Kind}
+use Rattle.kinds.specs.declared.Kind.TheVariants.{Dpch}
+use Rattle.kinds.specs.declared.UnknownKind.{UnknownKind}
 use Rattle.kinds.specs.declared.Shape.{Shape}
-use Rattle.lines.specs.declared.Told.{Told}
-use Rattle.kinds.specs.Rule.{is_kind, size_of, second_verdict, shape_of}
+use Rattle.kinds.specs.Kinds.{byte_of, Names, told}
+use Rattle.lines.specs.Answers.{Told, told_of, verdict_in}
+use Rattle.lines.proofs.Answers.{told_refused}
+use Rattle.kinds.specs.Rule.{is_kind, size_of, second_verdict, shape_of, Shape as Said}
 use Rattle.lines.specs.Rule.{indicator_of, indicators_of, second_of, paging_of, slot_number_of, tpc_of, aich_line, pich_line, dpch_line, record_line}
 use Rattle.lines.specs.Outcome.{line_size, room, is_whole, mapper_verdict, line_verdict, Prints, Writes, Record}
 use Rattle.lines.specs.Ready.{Whole, AichRecord, PichRecord, DpchRecord, MapsSlot}
@@ -49,8 +59,12 @@ pub prints_done : (v : Verdict) {text line line' : List ℕ} {n : ℕ} → v.num
 prints_done v {text} h w =
     record { length_is = w.ends ∙ zero-add (length text) ∙ sym (leaves_done v _ _ h); line_is = w.is ∙ sym (leaves_done v _ _ h) }
 
-pub writes_refused : (r line : List ℕ) {v : Verdict} → v ≡ mapper_verdict r → (v.number ≡ 0 → ⊥) → Writes r line (record { verdict = v; length = 0 }) line
-writes_refused r line e h = record { verdict_is = e; prints = prints_refused (mapper_verdict r) _ line (rw e at h) }
+-- .. in the words of a call that hands a refusal on
+pub prints_left : {v : Verdict} (text line : List ℕ) (x : Refusal) → verdict_in x ≡ v → Prints v text line 0 line
+prints_left {v} text line x e = rw (sym e) (prints_refused (verdict_in x) text line (refuses x x.place))
+
+pub writes_left : (r line : List ℕ) (a : Result ℕ Refusal) (x : Refusal) → IsErrAnd a (λ e. e ≡ x) → verdict_in x ≡ mapper_verdict r → Writes r line (told_of a) line
+writes_left r line a x h e = rw (told_refused a x h) (record { verdict_is = e; prints = prints_left _ line x e })
 
 pub writes_done : (r : List ℕ) {v : Verdict} {line line' : List ℕ} {n : ℕ} → v ≡ mapper_verdict r → v.number ≡ 0 → Wrote 0 (record_line r) line n line'
     → Writes r line (record { verdict = v; length = n }) line'
@@ -150,6 +164,10 @@ unfolding indicators_of
 indicators_at r s h = tab_at 16 _ s (pos 0) h
 
 -- ---- a whole record is one of its kind
+pub whole_kind : (r : List ℕ) (kind : Result Kind UnknownKind) → Whole r → Names (get_or r 0 0) kind → get_or r 0 0 ≡ byte_of (result_unwrap_or kind Dpch)
+whole_kind r (Ok k) w e = sym e
+whole_kind r (Err x) w e = absurd (false≢true (sym e.1 ∙ w.kind_ok))
+
 pub whole_some : (r : List ℕ) → Whole r → 0 < length r
 whole_some r w =
     let some = size_some (get_or r 0 0) (second_of r) in
@@ -206,25 +224,18 @@ not_short r h =
     let z : ⊥ = omega (arith, w.sized) in
     z)
 
-module _ (r : List ℕ) {s : Shape} (e : s ≡ shape_of (get_or r 0 0) (second_of r)) where
-  pub not_unknown : s.known ≡ false → is_whole r ≡ false
-  unfolding shape_of
-  not_unknown h = not_whole r (λ w. false≢true (sym (rw e at h) ∙ w.kind_ok))
+ok_number : {A : Type 0} (r : Result A Refusal) → eqb (verdict_of r).number 0 ≡ is_ok r
+ok_number (Ok a) = refl
+ok_number (Err x) = ne_eqb _ 0 (refuses x x.place)
 
-  pub not_unfit : (s.verdict.number ≡ 0 → ⊥) → is_whole r ≡ false
-  unfolding shape_of
-  not_unfit h = not_whole r (λ w. rw e at h w.second_ok)
-
-  pub whole_sized : s.known ≡ true → s.verdict.number ≡ 0 → eqb (length r) s.size ≡ is_whole r
-  unfolding shape_of is_whole
-  whole_sized h k =
-      let kind : is_kind (get_or r 0 0) ≡ true = rw e at h in
-      let fit : (second_verdict (get_or r 0 0) (second_of r)).number ≡ 0 = rw e at k in
-      rw (e, kind, eq-eqb (second_verdict (get_or r 0 0) (second_of r)).number 0 fit)
+pub whole_parts : (r : List ℕ) (s : Shape) → told s ≡ shape_of (get_or r 0 0) (second_of r) → is_whole r ≡ (s.known && is_ok s.second) && eqb (length r) s.size
+unfolding is_whole shape_of
+whole_parts r s e =
+    rw (sym (ap (λ (t : Said). t.known) e), sym (ap (λ (t : Said). t.verdict) e), sym (ap (λ (t : Said). t.size) e), ok_number s.second)
 
 -- ---- record: the checks of its length, then its own bytes
 module _ (r line : List ℕ) {t : Verdict} (e : t ≡ or_else (unless (is_whole r) length_refused 0) (room 1 (length line))) where
-  pub record_refused : (t.number ≡ 0 → ⊥) → Record r line (record { verdict = t; length = 0 }) line
+  record_refused : (t.number ≡ 0 → ⊥) → Record r line (record { verdict = t; length = 0 }) line
   unfolding line_verdict
   record_refused h =
       let is : t ≡ line_verdict r (length line) = then_refused _ _ _ e refl refl h in
@@ -240,6 +251,10 @@ module _ (r line : List ℕ) {t : Verdict} (e : t ≡ or_else (unless (is_whole 
   record_writes h w =
       let is : mapper_verdict r ≡ line_verdict r (length line) = then_next _ _ _ e refl refl h in
       record { verdict_is = w.verdict_is ∙ is; prints = rw (← is) w.prints }
+
+pub record_left : (r line : List ℕ) (a : Result ℕ Refusal) (x : Refusal) → IsErrAnd a (λ e. e ≡ x)
+    → verdict_in x ≡ or_else (unless (is_whole r) length_refused 0) (room 1 (length line)) → Record r line (told_of a) line
+record_left r line a x h e = rw (told_refused a x h) (record_refused r line e (refuses x x.place))
 
 -- a caller may take what was printed off the front of the line
 pub prints_fit : {v : Verdict} {text line line' : List ℕ} {n : ℕ} → Prints v text line n line' → n ≤ length line'

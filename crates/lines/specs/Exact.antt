@@ -2,8 +2,8 @@
 -- small letters.
 -- Assumes nothing.
 use Rattle.std.specs.Prelude.{ℕ, ◌+◌, ◌*◌, ◌-◌, ◌≤◌, ◌<◌, ◌≡◌, List, [], ◌∷◌, length, get_or}
-use Rattle.run.specs.declared.Verdict.{Verdict}
-use Rattle.lines.specs.declared.Told.{Told}
+use Rattle.run.specs.Verdict.{Verdict}
+use Rattle.lines.specs.Answers.{Told}
 use Rattle.lines.specs.Text.{decimal}
 use Rattle.lines.specs.Outcome.{Head, Record, Tell}
 

@@ -1,14 +1,14 @@
 -- docs/RULES.md, 'Job file and program': what each call answers and leaves in the lent line, for all inputs. A lent line without room for the longest line is refused with 3.
 -- Assumes nothing.
 use Rattle.std.specs.Prelude.{ℕ, ◌≡◌, Bool, ◌&&◌, List, eqb, leb, length, get_or}
-use Rattle.run.specs.declared.Verdict.{Verdict}
+use Rattle.run.specs.Verdict.{Verdict}
 use Rattle.run.specs.Refusals.{length_refused}
 use Rattle.run.specs.Verdicts.{or_else, unless, leaves}
 use Rattle.dpch.specs.Formats.{format_of}
 use Rattle.pich.specs.Outcome.{map_verdict as pichVerdict}
 use Rattle.slot.specs.Outcome.{map_verdict as slot_verdict}
 use Rattle.aich.specs.Outcome.{map_verdict as aichVerdict}
-use Rattle.lines.specs.declared.Told.{Told}
+use Rattle.lines.specs.Answers.{Told}
 use Rattle.kinds.specs.Rule.{is_kind, by_kind, size_of, second_verdict}
 use Rattle.lines.specs.Rule.{indicators_of, second_of, paging_of, slot_number_of, tpc_of, tfci_of, data_of, head_line, record_line, refusal_line}
 use Rattle.lines.specs.Text.{put}

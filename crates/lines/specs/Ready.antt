@@ -2,7 +2,7 @@
 -- Assumes nothing.
 use Rattle.std.specs.Prelude.{ℕ, ◌+◌, ◌≤◌, ◌≡◌, true, List, length, get_or}
 use Rattle.dpch.specs.Formats.{format_of}
-use Rattle.run.specs.declared.Verdict.{Verdict}
+use Rattle.run.specs.Verdict.{Verdict}
 use Rattle.run.specs.Verdicts.{leaves}
 use Rattle.slot.specs.Rule.{data_size, slot_of}
 use Rattle.slot.specs.Outcome.{map_verdict as slot_verdict}

@@ -1,7 +1,7 @@
 -- docs/RULES.md, 'Job file and program': the fields of a record in its own bytes, and the lines that are printed.
 -- Assumes nothing.
 use Rattle.std.specs.Prelude.{ℕ, ◌+◌, cond, List, [], ◌∷◌, ◌++◌, eqb, ℤ, pos, negsuc, get_or, take, drop}
-use Rattle.run.specs.declared.Verdict.{Verdict}
+use Rattle.run.specs.Verdict.{Verdict}
 use Rattle.run.specs.Table.{tab}
 use Rattle.dpch.specs.Formats.{format_of}
 use Rattle.slot.specs.Rule.{slot_of}

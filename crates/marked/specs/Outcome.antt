@@ -1,7 +1,7 @@
 -- What a call comes to, for every call of the table in one type: the two definitions that its promise cites, its verdict and what it leaves.
 -- Assumes nothing.
 use Rattle.std.specs.Prelude.{ℕ, List, ℤ}
-use Rattle.run.specs.declared.Verdict.{Verdict}
+use Rattle.run.specs.Verdict.{Verdict}
 use Rattle.run.specs.Verdicts.{leaves}
 use Rattle.dpch.specs.Formats.{format_of}
 use Rattle.slot.specs.Rule.{slot_of}

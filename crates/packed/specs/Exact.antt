@@ -1,7 +1,7 @@
 -- What a packed answer tells, where number, place and value fit their fields, as in every C call (the statement `..Tells` of each crate slt_NAME).
 -- Assumes nothing.
 use Rattle.std.specs.Prelude.{ℕ, ◌<◌, ◌^◌, ◌≡◌}
-use Rattle.run.specs.declared.Verdict.{Verdict}
+use Rattle.run.specs.Verdict.{Verdict}
 use Rattle.run.specs.Verdicts.{Narrow}
 use Rattle.packed.specs.Rule.{packed, number_in, place_in, value_in}
 use Rattle.packed.specs.Outcome.{packed_cut}

@@ -1,7 +1,7 @@
 -- What `pack` answers, for all inputs: each part's low bits, as many as its field has.
 -- Assumes nothing.
 use Rattle.std.specs.Prelude.{ℕ, ◌%◌}
-use Rattle.run.specs.declared.Verdict.{Verdict}
+use Rattle.run.specs.Verdict.{Verdict}
 use Rattle.packed.specs.Rule.{packed}
 
 abbrev pub packed_cut : Verdict → ℕ → ℕ

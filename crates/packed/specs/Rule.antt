@@ -1,7 +1,7 @@
 -- docs/RULES.md, 'Packed answers': number, place and value in one number of 64 bits, at bits 0 to 15, 16 to 47 and 48 to 63.
 -- Assumes nothing.
 use Rattle.std.specs.Prelude.{ℕ, ◌+◌, ◌*◌, ◌/◌, ◌%◌}
-use Rattle.run.specs.declared.Verdict.{Verdict}
+use Rattle.run.specs.Verdict.{Verdict}
 
 abbrev pub packed : Verdict → ℕ → ℕ
 packed v value = v.number + 65536 * v.place + 281474976710656 * value

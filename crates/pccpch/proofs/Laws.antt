@@ -7,16 +7,12 @@ use Prim.Native.Nat.{ℕ, zero, suc, ◌+◌, ◌-◌, ◌*◌, ◌/◌, ◌%◌
 use native.Mathlib.Nat.{not-suc-le-zero}
 use native.Mathlib.Omega.{arith}
 use borrow.Rule.Slice.PartMut.{put_mid, mid_of}
-use borrow.Author.Tests.{eqb-true, eqb-false, ltb-true, ltb-false, eq-eqb}
+use borrow.Author.Tests.{eqb-true, eqb-false, ltb-true, ltb-false}
 use lib.Dec.{eqb, ltb}
 use lib.ListN.{length, get_or, set, take, drop, replicate, length-set, length-replicate, get_or-replicate, take-append-drop, length-drop, drop_of_length-le}
-use lib.Seq.{get_or-set_same, get_or-set_other, get_or-drop, length-take-le, take_all}
+use lib.Seq.{get_or-set_same, get_or-set_other, get_or-drop, length-take-le}
 use Rattle.run.specs.Digits.{dtx}
-use Rattle.run.specs.First.{first_bad, Every, at_most}
-use Rattle.run.specs.Verdicts.{done}
 use Rattle.run.specs.Written.{over}
-use Rattle.run.proofs.Chain.{or_else_pass, unless_pass, each_pass}
-use Rattle.run.proofs.First.{first_none, none_first}
 use Rattle.run.proofs.Front.{Front, front_none, front_length, front_part, front_store, front_all}
 use Rattle.run.proofs.Lent.{part_width, part_length, same_part, front_copied}
 use Rattle.run.proofs.Table.{tab_length, tab_at}
@@ -25,7 +21,6 @@ use Rattle.sttd.specs.Outcome.{encoded_over}
 use Rattle.sttd.proofs.Laws.{sttd_length, sttd_short, sttd_take, sttd_drop, tail_kept}
 use Rattle.sttd.proofs.Runs.{encoded_whole}
 use Rattle.pccpch.specs.Rule.{place, filled, frame_of, coded, second_of, data_in}
-use Rattle.pccpch.specs.Outcome.{map_verdict}
 
 -- ---- the position rule
 pub place_within : (d : ℕ) → d < 270 → place d < 300
@@ -200,21 +195,3 @@ module _ (digits : List ℕ) (long : length digits ≡ 270) where
       let f1 = front_store 0 f0 (let n = front_length f0 in omega arith) (last_kept 268 (omega arith) (omega arith)) in
       let f2 = front_store 0 f1 (let n = front_length f1 in omega arith) (last_kept 269 (omega arith) (omega arith)) in
       front_all f2 (omega arith)
-
--- ---- what map takes, as the scan tells it
-pub fits_taken : (digits : List ℕ) (length1 length2 : ℕ) {i : ℕ} → length digits ≡ 270 → length1 ≡ 300 → length2 ≡ 300
-    → i ≡ first_bad (at_most 1 (take 270 digits)) (length (take 270 digits)) → 270 ≤ i → map_verdict digits length1 length2 ≡ done
-unfolding map_verdict
-fits_taken digits length1 length2 long h1 h2 e l =
-    let same : take 270 digits ≡ digits = take_all 270 digits (omega arith) in
-    let found = rw same at e in
-    or_else_pass (unless_pass 3 0 (eq-eqb _ _ long))
-    (or_else_pass (unless_pass 3 1 (eq-eqb _ _ h1))
-    (or_else_pass (unless_pass 3 2 (eq-eqb _ _ h2)) (each_pass 0 4 _ _ (none_first _ _ (omega (arith, found))))))
-
-pub bits_reach : (digits : List ℕ) {i : ℕ} → length digits ≡ 270 → i ≡ first_bad (at_most 1 (take 270 digits)) (length (take 270 digits))
-    → Every (at_most 1 digits) (length digits) → 270 ≤ i
-bits_reach digits long e bits =
-    let same : take 270 digits ≡ digits = take_all 270 digits (omega arith) in
-    let found = rw same at e in
-    omega (arith, found, first_none (at_most 1 digits) (length digits) bits)

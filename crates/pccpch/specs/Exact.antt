@@ -1,7 +1,7 @@
 -- Demand 2 for the P-CCPCH (docs/RULES.md, 'The demands' and 'P-CCPCH'), and what else TS 25.211, 5.3.3.3.1, says of its frames. Each statement is proved in proofs/Exact.antt under its name in small letters.
 -- Assumes nothing.
 use Rattle.std.specs.Prelude.{ℕ, ◌+◌, ◌*◌, ◌%◌, ◌<◌, ◌≤◌, ◌≡◌, true, false, List, ◌↔◌, length, get_or}
-use Rattle.run.specs.declared.Verdict.{Verdict}
+use Rattle.run.specs.Verdict.{Verdict}
 use Rattle.run.specs.Digits.{dtx}
 use Rattle.run.specs.Verdicts.{done, Narrow}
 use Rattle.sttd.specs.Rule.{bar_digit}

@@ -1,3 +1,4 @@
 pub mod Rule
 pub mod Outcome
 pub mod Exact
+pub mod Method

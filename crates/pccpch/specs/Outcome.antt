@@ -1,7 +1,7 @@
 -- docs/RULES.md, 'P-CCPCH': what each call answers and leaves in each lent run, for all inputs.
 -- Assumes nothing.
 use Rattle.std.specs.Prelude.{ℕ, ◌≡◌, Bool, cond, not, List, eqb, length, get_or}
-use Rattle.run.specs.declared.Verdict.{Verdict}
+use Rattle.run.specs.Verdict.{Verdict}
 use Rattle.run.specs.Digits.{dtx}
 use Rattle.run.specs.First.{at_most, agree}
 use Rattle.run.specs.Refusals.{length_refused, digit_refused, frame_refused}

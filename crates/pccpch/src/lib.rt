@@ -1,12 +1,13 @@
 // The primary common control physical channel on two antennas, mapped: docs/RULES.md, 'P-CCPCH'; TS 25.211, 5.3.3.3 and 5.3.3.3.1.
 #![tactic(auto)]
 
-ghost use Rattle.std.specs.Prelude.{◌≡◌, true, false, length};
-ghost use Rattle.run.specs.Verdicts.{done};
+ghost use Rattle.std.specs.Prelude.{◌≡◌, length};
+ghost use Rattle.run.specs.Answers.{verdict_of};
 ghost use Rattle.pccpch.specs.Rule.{frame_of, coded, second_of};
 ghost use Rattle.pccpch.specs.Outcome.{map_verdict, Map};
+ghost use Rattle.pccpch.specs.Method.{fitting};
 
-use run::{DTX, Verdict, found, or_else, refusal, unless};
+use run::{DTX, Reason, Refusal, refused_at, require};
 
 // The frame starts as DTX, takes each slot's 18 digits behind the slot's first two, and is copied to the lent frame. That the first two are DTX is said again in each
 // slot: so the compiler knows every digit of the frame, and writes the lent one at once.
@@ -14,16 +15,14 @@ fn write_frame(digits: &[u8], antenna: &mut [u8])
     requires { (length digits.now ≡ 270) × (length antenna.old ≡ 300) }
     ensures { antenna.new ≡ frame_of digits.now }
 {
-    let mut frame = [2u8; 300];
-    let mut slot = 0;
-    while slot < 15 {
+    let mut frame = [DTX; 300];
+    for slot in 0..15 {
         let from = 18 * slot;
         let start = 20 * slot;
         let to = start + 2;
         frame[start] = DTX;
         frame[start + 1] = DTX;
         write::copy(&mut frame[to..to + 18], &digits[from..from + 18]);
-        slot += 1;
     }
     write::copy(&mut antenna[0..300], &frame);
 }
@@ -72,39 +71,28 @@ pub fn second_of(digits: [u8; 270]) -> [u8; 300]
 // Whether no check refuses: the lengths are right, and every digit is 0 or 1. It is asked of 270 digits, not of as many as there are, and where it holds the lengths are
 // numbers to the compiler.
 fn fits(data: &[u8], length1: usize, length2: usize) -> bool
-    ensures { (result ≡ true → map_verdict «data».now length1 length2 ≡ done) × (result ≡ false → (map_verdict «data».now length1 length2).number ≡ 0 → ⊥) }
+    ensures { result ≡ fitting «data».now length1 length2 }
 {
-    if data.len() != 270 {
-        return false;
-    }
-    if length1 != 300 {
-        return false;
-    }
-    if length2 != 300 {
-        return false;
-    }
-    270 <= scan::first_above(&data[0..270], 1)
+    data.len() == 270 && length1 == 300 && length2 == 300 && scan::all_at_most(data, 1, 270)
 }
 
-fn map_verdict(data: &[u8], length1: usize, length2: usize) -> Verdict
-    ensures { result ≡ map_verdict «data».now length1 length2 }
+// The checks in their order.
+fn check(data: &[u8], length1: usize, length2: usize) -> Result<(), Refusal>
+    ensures { verdict_of result ≡ map_verdict «data».now length1 length2 }
 {
-    let digits = found(data, scan::first_above(data, 1), refusal::DIGIT, 0);
-    let third = or_else(unless(length2 == 300, refusal::LENGTH, 2), digits);
-    let second = or_else(unless(length1 == 300, refusal::LENGTH, 1), third);
-    or_else(unless(data.len() == 270, refusal::LENGTH, 0), second)
+    require(data.len() == 270, Reason::Length, 0)?;
+    require(length1 == 300, Reason::Length, 1)?;
+    require(length2 == 300, Reason::Length, 2)?;
+    refused_at(data, scan::above(data, 1), Reason::Digit, 0)
 }
 
 // The frames of both antennas, or the refusal and the frames as they were.
-pub fn map(data: &[u8], antenna1: &mut [u8], antenna2: &mut [u8]) -> Verdict
-    ensures { Map «data».now antenna1.old antenna2.old result antenna1.new antenna2.new }
+pub fn map(data: &[u8], antenna1: &mut [u8], antenna2: &mut [u8]) -> Result<(), Refusal>
+    ensures { Map «data».now antenna1.old antenna2.old (verdict_of result) antenna1.new antenna2.new }
 {
     if fits(data, antenna1.len(), antenna2.len()) {
         write_both(data, antenna1, antenna2);
-        return Verdict {
-            number: 0,
-            place: 0,
-        };
+        return Ok(());
     }
-    map_verdict(data, antenna1.len(), antenna2.len())
+    check(data, antenna1.len(), antenna2.len())
 }

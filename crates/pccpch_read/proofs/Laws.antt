@@ -6,25 +6,32 @@ use mathlib.Core.List.{List}
 use Prim.Native.Nat.{ℕ, zero, suc, ◌+◌, ◌-◌, ◌*◌, ◌/◌, ◌%◌, ◌≤◌, ◌<◌, min}
 use native.Mathlib.Omega.{arith}
 use borrow.Rule.Slice.PartMut.{put_mid, mid_of}
-use borrow.Author.Tests.{leb-true, lt-ltb, le-ltb, eqb-true, eqb-false, not-false}
-use lib.Dec.{eqb, leb}
+use borrow.Author.Tests.{leb-true, lt-ltb, le-ltb, eqb-true, eqb-false}
+use lib.Dec.{eqb, ltb, leb}
 use lib.ListN.{length, get_or, take, drop}
 use lib.Seq.{ext_get_or}
+use Rattle.std.specs.Prelude.{Option}
+use Rattle.std.specs.Option.{unwrap_or}
+use Rattle.std.specs.declared.option.Option.TheVariants.{Some, None}
+use Rattle.std.specs.List.{position, zip}
+use Rattle.run.specs.Verdict.{Verdict}
 use Rattle.run.specs.Digits.{dtx}
 use Rattle.run.specs.First.{first_bad, all, Every, at_most, is_at, agree}
-use Rattle.run.specs.Verdicts.{done}
+use Rattle.run.specs.Verdicts.{refused, done, unless, each}
+use Rattle.run.proofs.Answers.{each_some, found_each}
+use Rattle.run.proofs.Bools.{and_left, and_right}
+use Rattle.run.proofs.Places.{above_first, other_first, difference_first, found_below}
 use Rattle.run.specs.Written.{over}
 use Rattle.run.proofs.Chain.{leaves_done, number_0}
-use Rattle.run.proofs.First.{first_in_part, part_passes}
+use Rattle.run.proofs.First.{no_diff, first_in_part, part_passes}
 use Rattle.run.proofs.Front.{Front}
-use Rattle.run.proofs.Passing.{front_every}
+use Rattle.run.proofs.Passing.{all_every}
 use Rattle.run.proofs.Lent.{part_width, part_length, part_at, same_part, front_copied}
 use Rattle.pccpch.specs.Rule.{place, frame_of, second_of, data_in}
 use Rattle.pccpch.specs.Outcome.{right_kind, read_verdict, Read}
 use Rattle.pccpch.proofs.Exact.{mapped_accepted}
 use Rattle.pccpch.proofs.Laws.{digit_of, digit_within, place_digit, split, frame_length, frame_silent, frame_digit, second_length, data_length, data_at}
-use Rattle.scan_diff.proofs.Laws.{found_same}
-use Rattle.pccpch_read.specs.Method.{begins_at}
+use Rattle.pccpch_read.specs.Method.{begins_at, given}
 
 -- of a digit: at most 1 is as much as not DTX
 bit_kind : (d : ℕ) → d ≤ 2 → leb d 1 ≡ not (eqb d 2)
@@ -48,45 +55,60 @@ module _ (antenna1 : List ℕ) (long : length antenna1 ≡ 300) (small : Every (
       let d : get_or antenna1 (20 * s + 2 + j) 0 ≤ 2 = leb-true _ _ (small (20 * s + 2 + j) (omega arith)) in
       rw (le-ltb ((20 * s + 2 + j) % 20) 2 loud, part_at antenna1 (20 * s + 2) 18 j 0 l) (bit_kind (get_or antenna1 (20 * s + 2 + j) 0) d)
 
-  module _ (s i : ℕ) (h : s < 15) where
-    module _ (before : Every (right_kind antenna1) (20 * s))
-        (found : i ≡ first_bad (is_at dtx (take (20 * s + 2 - 20 * s) (drop (20 * s) antenna1))) (length (take (20 * s + 2 - 20 * s) (drop (20 * s) antenna1)))) where
-      first_two : i ≡ first_bad (is_at dtx (take (20 * s + 2 - 20 * s) (drop (20 * s) antenna1))) 2
-      first_two = rw (part_length antenna1 (20 * s) 2 (omega arith)) at found
+  module _ (s : ℕ) (h : s < 15) where
+    abbrev Two : List ℕ
+    Two = take (20 * s + 2 - 20 * s) (drop (20 * s) antenna1)
 
-      pub starts_wrong : i < 2 → 20 * s + i ≡ first_bad (right_kind antenna1) 300
-      starts_wrong l =
-          rw first_two
-          (first_in_part (right_kind antenna1) (is_at dtx (take (20 * s + 2 - 20 * s) (drop (20 * s) antenna1))) (20 * s) 2 before (λ j m. starts s j h m) 300 (omega arith) (rw first_two at l))
+    abbrev Others : List ℕ
+    Others = take (20 * s + 2 + 18 - (20 * s + 2)) (drop (20 * s + 2) antenna1)
 
-      pub starts_right : 2 ≤ i → Every (right_kind antenna1) (20 * s + 2)
-      starts_right l =
-          part_passes (right_kind antenna1) (is_at dtx (take (20 * s + 2 - 20 * s) (drop (20 * s) antenna1))) (20 * s) 2 before (λ j m. starts s j h m) (rw first_two at l)
+    module _ (before : Every (right_kind antenna1) (20 * s)) {r : Option ℕ} (told : r ≡ position (λ (d : ℕ). not (eqb d dtx)) Two) where
+      first_two : unwrap_or r 2 ≡ first_bad (is_at dtx Two) 2
+      first_two = rw (part_length antenna1 (20 * s) 2 (omega arith)) at (other_first dtx Two told)
 
-    module _ (before : Every (right_kind antenna1) (20 * s + 2))
-        (found : i ≡ first_bad (at_most 1 (take (20 * s + 2 + 18 - (20 * s + 2)) (drop (20 * s + 2) antenna1))) (length (take (20 * s + 2 + 18 - (20 * s + 2)) (drop (20 * s + 2) antenna1)))) where
-      others : i ≡ first_bad (at_most 1 (take (20 * s + 2 + 18 - (20 * s + 2)) (drop (20 * s + 2) antenna1))) 18
-      others = rw (part_length antenna1 (20 * s + 2) 18 (omega arith)) at found
+      pub starts_below : (i : ℕ) → r ≡ Some i → i < 2
+      starts_below i is = rw (part_length antenna1 (20 * s) 2 (omega arith)) at (found_below (λ (d : ℕ). not (eqb d dtx)) Two i told is)
 
-      pub sounds_wrong : i < 18 → 20 * s + 2 + i ≡ first_bad (right_kind antenna1) 300
-      sounds_wrong l =
-          rw others
-          (first_in_part (right_kind antenna1) (at_most 1 (take (20 * s + 2 + 18 - (20 * s + 2)) (drop (20 * s + 2) antenna1))) (20 * s + 2) 18 before (λ j m. sounds s j h m) 300 (omega arith) (rw others at l))
+      pub starts_wrong : (i : ℕ) → r ≡ Some i → refused 9 (20 * s + i) ≡ each 0 9 (right_kind antenna1) 300
+      starts_wrong i is =
+          let l = starts_below i is in
+          let e : i ≡ first_bad (is_at dtx Two) 2 = rw is at first_two in
+          each_some 9 (right_kind antenna1) 300 (rw e (first_in_part (right_kind antenna1) (is_at dtx Two) (20 * s) 2 before (λ j m. starts s j h m) 300 (omega arith) (rw e at l))) (omega arith)
 
-      pub sounds_right : 18 ≤ i → Every (right_kind antenna1) (20 * (s + 1))
-      sounds_right l =
+      pub starts_right : r ≡ None → Every (right_kind antenna1) (20 * s + 2)
+      starts_right is =
+          let e : 2 ≡ first_bad (is_at dtx Two) 2 = rw is at first_two in
+          part_passes (right_kind antenna1) (is_at dtx Two) (20 * s) 2 before (λ j m. starts s j h m) (omega arith)
+
+    module _ (before : Every (right_kind antenna1) (20 * s + 2)) {r : Option ℕ} (told : r ≡ position (ltb 1) Others) where
+      others : unwrap_or r 18 ≡ first_bad (at_most 1 Others) 18
+      others = rw (part_length antenna1 (20 * s + 2) 18 (omega arith)) at (above_first 1 Others told)
+
+      pub sounds_below : (i : ℕ) → r ≡ Some i → i < 18
+      sounds_below i is = rw (part_length antenna1 (20 * s + 2) 18 (omega arith)) at (found_below (ltb 1) Others i told is)
+
+      pub sounds_wrong : (i : ℕ) → r ≡ Some i → refused 9 (20 * s + 2 + i) ≡ each 0 9 (right_kind antenna1) 300
+      sounds_wrong i is =
+          let l = sounds_below i is in
+          let e : i ≡ first_bad (at_most 1 Others) 18 = rw is at others in
+          each_some 9 (right_kind antenna1) 300 (rw e (first_in_part (right_kind antenna1) (at_most 1 Others) (20 * s + 2) 18 before (λ j m. sounds s j h m) 300 (omega arith) (rw e at l))) (omega arith)
+
+      pub sounds_right : r ≡ None → Every (right_kind antenna1) (20 * (s + 1))
+      sounds_right is =
+          let e : 18 ≡ first_bad (at_most 1 Others) 18 = rw is at others in
           let next : 20 * s + 2 + 18 ≡ 20 * (s + 1) = omega arith in
           subst (λ (n : ℕ). Every (right_kind antenna1) n) next
-          (part_passes (right_kind antenna1) (at_most 1 (take (20 * s + 2 + 18 - (20 * s + 2)) (drop (20 * s + 2) antenna1))) (20 * s + 2) 18 before (λ j m. sounds s j h m) (rw others at l))
+          (part_passes (right_kind antenna1) (at_most 1 Others) (20 * s + 2) 18 before (λ j m. sounds s j h m) (omega arith))
 
 -- antenna 2 against the frame that is made again from antenna 1's data
-pub differs : (antenna1 antenna2 digits implied : List ℕ) (r : ℕ) → length antenna2 ≡ 300 → digits ≡ data_in antenna1 → implied ≡ second_of digits
-    → r ≡ first_bad (agree implied antenna2) (min (length implied) (length antenna2)) → r ≡ first_bad (agree (second_of (data_in antenna1)) antenna2) 300
-differs antenna1 antenna2 digits implied r long e f found =
-    let is : implied ≡ second_of (data_in antenna1) = f ∙ ap second_of e in
-    let n : length implied ≡ 300 = ap length is ∙ second_length (data_in antenna1) in
-    let shorter : min (length implied) (length antenna2) ≡ 300 = omega arith in
-    found ∙ rw shorter (ap (λ (t : List ℕ). first_bad (agree t antenna2) 300) is)
+pub compared : (antenna1 antenna2 : List ℕ) (found : Option ℕ) {v : Verdict} → length antenna2 ≡ 300
+    → found ≡ position (λ (p : ℕ × ℕ). not (eqb p.0 p.1)) (zip (second_of (data_in antenna1)) antenna2)
+    → v ≡ unless (leb (length antenna2) (unwrap_or found (length antenna2))) 9 (300 + unwrap_or found (length antenna2))
+    → v ≡ each 300 9 (agree (second_of (data_in antenna1)) antenna2) 300
+compared antenna1 antenna2 found {v} long told e =
+    let n = second_length (data_in antenna1) in
+    let all : min (length (second_of (data_in antenna1))) (length antenna2) ≡ 300 = omega arith in
+    found_each 300 9 _ 300 found (rw all at (difference_first (second_of (data_in antenna1)) antenna2 told)) (rw long at e)
 
 -- a frame of antenna 1 whose slots begin with DTX is the frame of its data
 module _ (antenna1 : List ℕ) (long : length antenna1 ≡ 300) (begins : Every (begins_at antenna1) 15) where
@@ -123,15 +145,36 @@ module _ (antenna1 : List ℕ) (long : length antenna1 ≡ 300) (begins : Every 
           ∙ data_at antenna1 (digit_of k) (digit_within k h l)
           ∙ ap (λ (n : ℕ). get_or antenna1 n 0) (place_digit k l))
 
+-- what a test of three parts, and of two in each of two, tells
+three : (a b c d e f : Bool) → ((a && (b && c)) && (d && (e && f))) ≡ true → (a ≡ true) × (c ≡ true) × (f ≡ true)
+three a b c d e f h =
+    let own = and_left (a && (b && c)) (d && (e && f)) h in
+    let other = and_right (a && (b && c)) (d && (e && f)) h in
+    (and_left a (b && c) own, and_right b c (and_right a (b && c) own), and_right e f (and_right d (e && f) other))
+
+pub lengths_told : (a b c : ℕ) → ((eqb a 300 && eqb b 300) && eqb c 270) ≡ true → (a ≡ 300) × (b ≡ 300) × (c ≡ 270)
+lengths_told a b c h =
+    let frames = and_left (eqb a 300 && eqb b 300) (eqb c 270) h in (
+      eqb-true a 300 (and_left (eqb a 300) (eqb b 300) frames),
+      eqb-true b 300 (and_right (eqb a 300) (eqb b 300) frames),
+      eqb-true c 270 (and_right (eqb a 300 && eqb b 300) (eqb c 270) h),
+    )
+
 -- .. and where its data are bits, and antenna 2's frame is what they give, both are accepted
-pub given_accepted : (antenna1 antenna2 : List ℕ) {digits implied : List ℕ} {good : Bool} {j : ℕ} → length antenna1 ≡ 300 → length antenna2 ≡ 300 → digits ≡ data_in antenna1
-    → implied ≡ second_of digits → Every (begins_at antenna1) 15 → good ≡ (leb 270 (length digits) && all 270 (at_most 1 digits)) → not good ≡ false
-    → j ≡ first_bad (agree implied antenna2) (min (length implied) (length antenna2)) → 300 ≤ j → read_verdict antenna1 antenna2 270 ≡ done
-given_accepted antenna1 antenna2 {digits} {implied} {good} l1 l2 e is begins told pass found h =
+pub given_accepted : (antenna1 antenna2 : List ℕ) {digits : List ℕ} → length antenna1 ≡ 300 → length antenna2 ≡ 300 → digits ≡ data_in antenna1 → given antenna1 antenna2 digits ≡ true
+    → read_verdict antenna1 antenna2 270 ≡ done
+given_accepted antenna1 antenna2 {digits} l1 l2 e good =
     let n : length digits ≡ 270 = ap length e ∙ data_length antenna1 in
-    let same = found_same _ _ 300 _ (ap length is ∙ second_length digits) l2 found h in
-    subst₂ (λ (f g : List ℕ). read_verdict f g 270 ≡ done) (ap frame_of e ∙ own_frame antenna1 l1 begins) (sym is ∙ same)
-    (mapped_accepted digits (record { data_ok = n; first_ok = refl; second_ok = refl; bits_ok = front_every (length digits) 270 (at_most 1 digits) n told (not-false good pass) }))
+    let t =
+    three (all 15 (begins_at antenna1)) (leb 270 (length digits)) (all 270 (at_most 1 digits)) (leb 300 (length (second_of digits))) (leb 300 (length antenna2)) (all 300 (agree (second_of digits) antenna2)) good
+    in
+    let begins = all_every 15 (begins_at antenna1) t.0 in
+    let bits = all_every 270 (at_most 1 digits) t.1 in
+    let alike = all_every 300 (agree (second_of digits) antenna2) t.2 in
+    let m = second_length digits in
+    let same : second_of digits ≡ antenna2 = no_diff (second_of digits) antenna2 (m ∙ sym l2) (λ k h. alike k (omega arith)) in
+    subst₂ (λ (f g : List ℕ). read_verdict f g 270 ≡ done) (ap frame_of e ∙ own_frame antenna1 l1 begins) same
+    (mapped_accepted digits (record { data_ok = n; first_ok = refl; second_ok = refl; bits_ok = λ k h. bits k (omega arith) }))
 
 -- what is given is read at once
 pub given_read : {antenna1 antenna2 digits after : List ℕ} → length digits ≡ 270 → (read_verdict antenna1 antenna2 270 ≡ done) × (after ≡ data_in antenna1)

@@ -15,9 +15,17 @@ use Rattle.run.specs.First.{Every, at_most}
 use Rattle.run.proofs.Bools.{either}
 use Rattle.run.proofs.Chain.{four_done, or_else_done, unless_done, each_done}
 use Rattle.run.proofs.Table.{tab_length, tab_at}
-use Rattle.pich.specs.Rule.{is_np, width, first_digit, frame_of, indicators_in}
+use Rattle.run.proofs.Answers.{left}
+use Rattle.run.specs.Answers.{number_of}
+use Rattle.run.specs.Verdicts.{refused}
+use Rattle.run.specs.declared.refusal.Refusal.{Refusal}
+use Rattle.std.specs.Prelude.{Result, Ok, Err}
+use Rattle.std.specs.Result.{IsErrAnd}
+use Rattle.pich.specs.Rule.{is_np, width, first_digit, frame_of, indicators_in, q_of}
 use Rattle.pich.specs.declared.Pi.{Pi}
-use Rattle.pich.specs.Outcome.{q_verdict, map_verdict, stands, read_head, read_verdict}
+use Rattle.pich.specs.declared.Indicator.{Indicator}
+use Rattle.pich.specs.Paging.{paging_of}
+use Rattle.pich.specs.Outcome.{q_verdict, Q, map_verdict, stands, read_head, read_verdict}
 
 -- what holds at 18, 36, 72 and 144 holds at every Np
 pub at_each : (P : ℕ → Type 0) → P 18 → P 36 → P 72 → P 144 → (np : ℕ) → is_np np ≡ true → P np
@@ -131,6 +139,15 @@ asked np pi sfn h =
       pi_ok = ltb-true _ _ (unless_done _ 11 0 (omega arith) c2.first);
       sfn_ok = ltb-true _ _ (unless_done _ 11 1 (omega arith) c2.rest);
     }
+
+-- .. and where `q` refuses
+pub q_refused : (np : ℕ) (pi : Pi) (sfn : ℕ) (r : Result Indicator Refusal) (x : Refusal) → IsErrAnd r (λ e. e ≡ x)
+    → refused (number_of x.reason) x.place ≡ q_verdict np pi sfn → Q np pi sfn (paging_of r)
+q_refused np pi sfn (Ok q) x h e = absurd h
+q_refused np pi sfn (Err y) x h e =
+    let same : y ≡ x = h in
+    let told : refused (number_of y.reason) y.place ≡ q_verdict np pi sfn = rw same e in
+    record { verdict_is = told; q_is = left y (q_of np pi.0 sfn) 0 told }
 
 pub record Taken (np : ℕ) (indicators : List ℕ) (frame_len : ℕ) : Type 0 where
   pub np_ok : is_np np ≡ true

@@ -1,11 +1,11 @@
 -- Demand 2 for the PICH (docs/RULES.md, 'The demands' and 'PICH'), and where each indicator's digits stand. Each statement is proved in proofs/Exact.antt under its name in small letters.
 -- Assumes nothing.
 use Rattle.std.specs.Prelude.{ℕ, ◌+◌, ◌*◌, ◌<◌, ◌≤◌, ◌≡◌, true, List, ◌↔◌, length, get_or}
-use Rattle.run.specs.declared.Verdict.{Verdict}
+use Rattle.run.specs.Verdict.{Verdict}
 use Rattle.run.specs.Digits.{dtx}
 use Rattle.run.specs.Verdicts.{done, Narrow}
 use Rattle.pich.specs.declared.Pi.{Pi}
-use Rattle.pich.specs.declared.Paging.{Paging}
+use Rattle.pich.specs.Paging.{Paging}
 use Rattle.pich.specs.Rule.{is_np, width, frame_of, indicators_in, q_of}
 use Rattle.pich.specs.Outcome.{q_verdict, Q, map_verdict, Map, read_verdict, Read}
 

@@ -1,3 +1,4 @@
 pub mod Rule
+pub mod Paging
 pub mod Outcome
 pub mod Exact

@@ -1,13 +1,13 @@
 -- docs/RULES.md, 'PICH': what each call answers and leaves in each lent run, for all inputs.
 -- Assumes nothing.
 use Rattle.std.specs.Prelude.{ℕ, ◌*◌, ◌/◌, ◌≡◌, Bool, cond, not, ◌&&◌, List, length, get_or, eqb, ltb}
-use Rattle.run.specs.declared.Verdict.{Verdict}
+use Rattle.run.specs.Verdict.{Verdict}
 use Rattle.run.specs.Digits.{dtx}
 use Rattle.run.specs.First.{at_most}
 use Rattle.run.specs.Refusals.{length_refused, digit_refused, np_refused, frame_refused, range_refused}
 use Rattle.run.specs.Verdicts.{or_else, unless, each, leaves}
 use Rattle.pich.specs.declared.Pi.{Pi}
-use Rattle.pich.specs.declared.Paging.{Paging}
+use Rattle.pich.specs.Paging.{Paging}
 use Rattle.pich.specs.Rule.{is_np, width, frame_of, indicators_in, q_of}
 
 -- q: 8, then 11 (place 0 PI, 1 SFN); PI is 0 to Np - 1, SFN 0 to 4095

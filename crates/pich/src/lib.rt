@@ -2,10 +2,12 @@
 #![tactic(auto)]
 
 ghost use Rattle.std.specs.Prelude.{◌≡◌, true, ◌*◌, ◌/◌, ◌<◌, ◌≤◌};
+ghost use Rattle.run.specs.Answers.{verdict_of};
+ghost use Rattle.pich.specs.Paging.{paging_of};
 ghost use Rattle.pich.specs.Rule.{is_np, first_digit, q_of};
 ghost use Rattle.pich.specs.Outcome.{q_verdict, Q};
 
-use run::{Verdict, or_else, refusal, unless};
+use run::{Reason, Refusal, require};
 
 // A PI as the higher layers compute it. It does not say where in the frame its indicator stands.
 #[derive(Clone, Copy)]
@@ -15,21 +17,11 @@ pub struct Pi(pub usize);
 #[derive(Clone, Copy)]
 pub struct Indicator(pub usize);
 
-// What `q` answers: the number of the indicator, 0 where refused.
-#[derive(Clone, Copy)]
-pub struct Paging {
-    pub verdict: Verdict,
-    pub q: Indicator,
-}
-
 // Np is one of the numbers of indicators that a frame can have.
 pub fn is_np(np: usize) -> bool
     ensures { result ≡ is_np np }
 {
-    match np {
-        18 | 36 | 72 | 144 => true,
-        _ => false,
-    }
+    matches!(np, 18 | 36 | 72 | 144)
 }
 
 // Where the digits of indicator q begin, and the tail where the frame has no such indicator.
@@ -42,12 +34,13 @@ pub fn first_digit(np: usize, q: Indicator) -> usize
     288
 }
 
-fn q_verdict(np: usize, pi: Pi, sfn: usize) -> Verdict
-    ensures { result ≡ q_verdict np pi sfn }
+// The checks in their order.
+fn check(np: usize, pi: Pi, sfn: usize) -> Result<(), Refusal>
+    ensures { verdict_of result ≡ q_verdict np pi sfn }
 {
-    let last = unless(sfn < 4096, refusal::RANGE, 1);
-    let range = or_else(unless(pi.0 < np, refusal::RANGE, 0), last);
-    or_else(unless(is_np(np), refusal::NP, 0), range)
+    require(is_np(np), Reason::Np, 0)?;
+    require(pi.0 < np, Reason::Range, 0)?;
+    require(sfn < 4096, Reason::Range, 1)
 }
 
 // x of 144 parts, counted in Np parts: the product comes before the floor.
@@ -67,18 +60,9 @@ fn q_of(np: usize, pi: usize, sfn: usize) -> usize
 }
 
 // The paging indicator of a higher-layer PI in the frame of an SFN.
-pub fn q(np: usize, pi: Pi, sfn: usize) -> Paging
-    ensures { Q np pi sfn result }
+pub fn q(np: usize, pi: Pi, sfn: usize) -> Result<Indicator, Refusal>
+    ensures { Q np pi sfn (paging_of result) }
 {
-    let verdict = q_verdict(np, pi, sfn);
-    if verdict.number != 0 {
-        return Paging {
-            verdict,
-            q: Indicator(0),
-        };
-    }
-    Paging {
-        verdict,
-        q: Indicator(q_of(np, pi.0, sfn)),
-    }
+    check(np, pi, sfn)?;
+    Ok(Indicator(q_of(np, pi.0, sfn)))
 }

@@ -2,24 +2,21 @@
 #![tactic(auto)]
 
 ghost use Rattle.std.specs.Prelude.{◌≡◌, true, length};
+ghost use Rattle.run.specs.Answers.{verdict_of};
 ghost use Rattle.pich.specs.Rule.{is_np, frame_of};
 ghost use Rattle.pich.specs.Outcome.{map_verdict, Map};
 
 use pich::{Indicator, first_digit, is_np};
-use run::{DTX, Verdict, found, or_else, refusal, unless};
+use run::{DTX, Reason, Refusal, refused_at, require};
 
-fn map_verdict(np: usize, indicators: &[u8], frame_length: usize) -> Verdict
-    ensures { result ≡ map_verdict np indicators.now frame_length }
+// The checks in their order.
+fn check(np: usize, indicators: &[u8], frame_length: usize) -> Result<(), Refusal>
+    ensures { verdict_of result ≡ map_verdict np indicators.now frame_length }
 {
-    let digits = found(
-        indicators,
-        scan::first_above(indicators, 1),
-        refusal::DIGIT,
-        0,
-    );
-    let second = or_else(unless(frame_length == 300, refusal::LENGTH, 1), digits);
-    let lengths = or_else(unless(indicators.len() == np, refusal::LENGTH, 0), second);
-    or_else(unless(is_np(np), refusal::NP, 0), lengths)
+    require(is_np(np), Reason::Np, 0)?;
+    require(indicators.len() == np, Reason::Length, 0)?;
+    require(frame_length == 300, Reason::Length, 1)?;
+    refused_at(indicators, scan::above(indicators, 1), Reason::Digit, 0)
 }
 
 // Each indicator into its own stretch of the frame, and DTX behind the last.
@@ -28,14 +25,12 @@ fn write_frame(np: usize, indicators: &[u8], frame: &mut [u8])
     ensures { frame.new ≡ frame_of np indicators.now }
 {
     let width = 288 / np;
-    let mut q = 0;
-    while q < np {
+    for q in 0..np {
         let start = first_digit(np, Indicator(q));
         let end = start + width;
-        write::fill(&mut frame[start..end], indicators[q]);
-        q += 1;
+        frame[start..end].fill(indicators[q]);
     }
-    write::fill(&mut frame[288..300], DTX);
+    frame[288..300].fill(DTX);
 }
 
 // The same, with a loop for each number of indicators: where the width is a number and not a variable, a stretch is one store.
@@ -52,13 +47,10 @@ fn write_by_np(np: usize, indicators: &[u8], frame: &mut [u8])
 }
 
 // The frame of the indicators, or the refusal and the frame as it was.
-pub fn map(np: usize, indicators: &[u8], frame: &mut [u8]) -> Verdict
-    ensures { Map np indicators.now frame.old result frame.new }
+pub fn map(np: usize, indicators: &[u8], frame: &mut [u8]) -> Result<(), Refusal>
+    ensures { Map np indicators.now frame.old (verdict_of result) frame.new }
 {
-    let verdict = map_verdict(np, indicators, frame.len());
-    if verdict.number != 0 {
-        return verdict;
-    }
+    check(np, indicators, frame.len())?;
     write_by_np(np, indicators, frame);
-    verdict
+    Ok(())
 }

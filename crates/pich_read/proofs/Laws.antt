@@ -1,32 +1,32 @@
 -- Laws of the reader: its scan of a frame, group by group and then the tail, and what is accepted at once: indicators found by halving.
 -- Assumes nothing.
 use mathlib.Core.Path.{◌≡◌, refl, sym, ap, ◌∙◌, subst}
-use mathlib.Core.Bool.{Bool, true, false, not}
+use mathlib.Core.Bool.{Bool, true, false, not, ◌&&◌}
 use mathlib.Core.List.{List}
-use Prim.Native.Nat.{ℕ, ◌+◌, ◌-◌, ◌*◌, ◌/◌, ◌≤◌, ◌<◌, min}
+use Prim.Native.Nat.{ℕ, ◌+◌, ◌-◌, ◌*◌, ◌/◌, ◌≤◌, ◌<◌}
 use native.Mathlib.Nat.{add-zero}
 use native.Mathlib.Omega.{arith}
 use borrow.Author.Tests.{lt-ltb, le-ltb, ltb-true, ltb-false, eqb-true, eqb-false, eq-eqb}
-use lib.Dec.{eqb, ltb}
-use lib.ListN.{length, get_or, set, take, drop, replicate, length-set, length-replicate, get_or-replicate}
-use lib.Seq.{ext_get_or, get_or-set_same, get_or-set_other}
+use lib.Dec.{eqb, ltb, leb}
+use lib.ListN.{length, get_or, set, take, drop, replicate, length-set, get_or-replicate}
+use lib.Seq.{length-take-le, get_or-take, ext_get_or, get_or-set_same, get_or-set_other}
 use Rattle.run.specs.Digits.{dtx}
-use Rattle.run.specs.First.{first_bad, all, Every, at_most, is_at, like_first, agree}
+use Rattle.run.specs.First.{first_bad, all, Every, at_most, is_at, is_unlike, like_first, agree}
 use Rattle.run.specs.Verdicts.{done}
 use Rattle.run.proofs.Chain.{or_else_pass, unless_pass, each_pass, leaves_done, number_0}
-use Rattle.run.proofs.First.{first_le, first_in_part, part_passes, first_in_last}
-use Rattle.run.proofs.Passing.{passed}
+use Rattle.run.proofs.Places.{unlike_first, other_first, found_below}
+use Rattle.std.specs.Prelude.{Option, Some, None}
+use Rattle.std.specs.Option.{unwrap_or}
+use Rattle.std.specs.List.{position}
+use Rattle.run.proofs.First.{no_diff, first_in_part, part_passes, first_in_last}
+use Rattle.run.proofs.Passing.{all_every, front_every}
 use Rattle.run.proofs.Lent.{part_length, part_at}
-use Rattle.scan_diff.proofs.Laws.{found_same}
+use Rattle.run.proofs.Bools.{and_right}
 use Rattle.pich.specs.Rule.{is_np, width, frame_of}
 use Rattle.pich.specs.Outcome.{map_verdict, stands, read_verdict, Read}
 use Rattle.pich.specs.Exact.{Gives}
-use Rattle.pich.proofs.Laws.{groups, frame_length, digit_at, tail_at, taken}
+use Rattle.pich.proofs.Laws.{at_each, groups, frame_length, digit_at, tail_at, taken}
 use Rattle.pich.proofs.Exact.{mapped_accepted, read_exact}
-
--- what a scan answers is no more than the length
-pub within : (ok : ℕ → Bool) (n r : ℕ) → r ≡ first_bad ok n → r ≤ n
-within ok n r e = rw e (first_le ok n)
 
 module _ (np : ℕ) (ok : is_np np ≡ true) (frame : List ℕ) (long : length frame ≡ 300) where
   in_group : (q r j : ℕ) → q < np → r ≡ width np * q → j < width np
@@ -41,31 +41,41 @@ module _ (np : ℕ) (ok : is_np np ≡ true) (frame : List ℕ) (long : length f
       let first : get_or (take (r + width np - r) (drop r frame)) 0 0 ≡ get_or frame r 0 = part_at frame r (width np) 0 0 some ∙ ap (λ (n : ℕ). get_or frame n 0) (add-zero r) in
       rw (lt-ltb (r + j) 288 inside, part_at frame r (width np) j 0 l, first, group)
 
+  -- a place that the scan of a group answers is one of the group's
+  pub in_width : (q r i : ℕ) → q < np → r ≡ width np * q → {o : Option ℕ} → o ≡ position (is_unlike (get_or (take (r + width np - r) (drop r frame)) 0 0)) (take (r + width np - r) (drop r frame))
+      → o ≡ Some i → i < width np
+  in_width q r i h e {o} f is =
+      let room = (groups np ok).inside q h in
+      let l = found_below (is_unlike (get_or (take (r + width np - r) (drop r frame)) 0 0)) (take (r + width np - r) (drop r frame)) i f is in
+      rw (part_length frame r (width np) (omega arith)) at l
+
   -- a group with a digit that may not stand there: its first is the frame's first
   pub hit : (q r i : ℕ) → q < np → r ≡ width np * q → Every (stands np frame) (width np * q)
-      → i ≡ first_bad (like_first (take (r + width np - r) (drop r frame))) (length (take (r + width np - r) (drop r frame)))
-      → i < width np → r + i ≡ first_bad (stands np frame) 300
-  hit q r i h e before f l =
+      → {o : Option ℕ} → o ≡ position (is_unlike (get_or (take (r + width np - r) (drop r frame)) 0 0)) (take (r + width np - r) (drop r frame))
+      → o ≡ Some i → r + i ≡ first_bad (stands np frame) 300
+  hit q r i h e before {o} f is =
       let room = (groups np ok).inside q h in
-      let found = rw (part_length frame r (width np) (omega arith)) at f in
+      let n = part_length frame r (width np) (omega arith) in
+      let told : i ≡ first_bad (like_first (take (r + width np - r) (drop r frame))) (width np) = rw is at (rw n at (unlike_first (take (r + width np - r) (drop r frame)) f)) in
+      let l = in_width q r i h e f is in
       let here : r + width np ≤ 300 = omega arith in
-      let below : first_bad (like_first (take (r + width np - r) (drop r frame))) (width np) < width np = rw found at l in
-      rw found
+      rw told
       (first_in_part (stands np frame) (like_first (take (r + width np - r) (drop r frame))) r (width np) (rw e before)
-      (λ j m. in_group q r j h e m) 300 here below)
+      (λ j m. in_group q r j h e m) 300 here (rw told at l))
 
   -- a group that may stand: all up to its end may
-  pub pass : (q r i : ℕ) → q < np → r ≡ width np * q → Every (stands np frame) (width np * q)
-      → i ≡ first_bad (like_first (take (r + width np - r) (drop r frame))) (length (take (r + width np - r) (drop r frame)))
-      → width np ≤ i → Every (stands np frame) (width np * (q + 1))
-  pass q r i h e before f l =
+  pub pass : (q r : ℕ) → q < np → r ≡ width np * q → Every (stands np frame) (width np * q)
+      → {o : Option ℕ} → o ≡ position (is_unlike (get_or (take (r + width np - r) (drop r frame)) 0 0)) (take (r + width np - r) (drop r frame))
+      → o ≡ None → Every (stands np frame) (width np * (q + 1))
+  pass q r h e before {o} f is =
       let g = groups np ok in
       let room = g.inside q h in
-      let found = rw (part_length frame r (width np) (omega arith)) at f in
+      let n = part_length frame r (width np) (omega arith) in
+      let told : width np ≡ first_bad (like_first (take (r + width np - r) (drop r frame))) (width np) = rw is at (rw n at (unlike_first (take (r + width np - r) (drop r frame)) f)) in
       let next : r + width np ≡ width np * (q + 1) = ap (λ (n : ℕ). n + width np) e ∙ g.next q in
       subst (λ (n : ℕ). Every (stands np frame) n) next
       (part_passes (stands np frame) (like_first (take (r + width np - r) (drop r frame))) r (width np) (rw e before)
-      (λ j m. in_group q r j h e m) (rw found at l))
+      (λ j m. in_group q r j h e m) (omega arith))
 
   in_tail : (j : ℕ) → j < 12 → is_at dtx (take 12 (drop 288 frame)) j ≡ stands np frame (288 + j)
   unfolding stands
@@ -74,12 +84,17 @@ module _ (np : ℕ) (ok : is_np np ≡ true) (frame : List ℕ) (long : length f
       rw (le-ltb (288 + j) 288 outside, part_at frame 288 12 j 0 h)
 
   -- the groups may stand, and the scan of the tail ends the search
-  pub last : (i : ℕ) → Every (stands np frame) 288
-      → i ≡ first_bad (is_at dtx (take 12 (drop 288 frame))) (length (take 12 (drop 288 frame)))
-      → 288 + i ≡ first_bad (stands np frame) 300
-  last i before f =
-      let found = rw (part_length frame 288 12 (omega arith)) at f in
-      rw found (first_in_last (stands np frame) (is_at dtx (take 12 (drop 288 frame))) 288 12 before in_tail)
+  pub last : Every (stands np frame) 288 → {o : Option ℕ} → o ≡ position (λ d. not (eqb d dtx)) (take 12 (drop 288 frame))
+      → 288 + unwrap_or o 12 ≡ first_bad (stands np frame) 300
+  last before {o} f =
+      let n = part_length frame 288 12 (omega arith) in
+      let told : unwrap_or o 12 ≡ first_bad (is_at dtx (take 12 (drop 288 frame))) 12 = rw n at (other_first dtx (take 12 (drop 288 frame)) f) in
+      rw told (first_in_last (stands np frame) (is_at dtx (take 12 (drop 288 frame))) 288 12 before in_tail)
+
+  pub in_last : (i : ℕ) {o : Option ℕ} → o ≡ position (λ d. not (eqb d dtx)) (take 12 (drop 288 frame)) → o ≡ Some i → i < 12
+  in_last i {o} f is =
+      let l = found_below (λ d. not (eqb d dtx)) (take 12 (drop 288 frame)) i f is in
+      rw (part_length frame 288 12 (omega arith)) at l
 
 -- ---- pairs of digits taken as one: what the loop keeps of the half that is written
 pub record Halved (s half₀ half : List ℕ) (i : ℕ) (good : Bool) : Type 0 where
@@ -147,10 +162,48 @@ module _ (np : ℕ) (frame found : List ℕ) (ok : is_np np ≡ true) (long : le
           ∙ sym (ap (λ (n : ℕ). get_or frame n 0) (sym e) ∙ sym (part_at frame 288 12 (k - 288) 0 j) ∙ ap (λ (t : List ℕ). get_or t (k - 288) 0) tail ∙ get_or-replicate {A = ℕ} 12 (k - 288) 2 0 j)
 
   -- as the scans tell it
-  pub found_given : {good : Bool} {j : ℕ} → ((k : ℕ) → k < 288 → get_or frame k 0 ≡ get_or found (k / width np) 0) → good ≡ all (length found) (at_most 1 found) → not good ≡ false
-      → j ≡ first_bad (agree (take 12 (drop 288 frame)) (replicate 12 dtx)) (min (length (take 12 (drop 288 frame))) (length (replicate 12 dtx))) → 12 ≤ j → Gives np found frame
-  found_given fills e h d l =
-      given fills (passed _ e h) (found_same _ _ 12 _ (part_length frame 288 12 (omega arith)) (length-replicate {A = ℕ} 12 2) d l)
+  pub found_given : {bits tail : Bool} → ((k : ℕ) → k < 288 → get_or frame k 0 ≡ get_or found (k / width np) 0)
+      → bits ≡ (leb np (length found) && all np (at_most 1 found)) → bits ≡ true
+      → tail ≡ (leb 12 (length (take 12 (drop 288 frame))) && (leb 12 (length (replicate 12 dtx)) && all 12 (agree (take 12 (drop 288 frame)) (replicate 12 dtx)))) → tail ≡ true → Gives np found frame
+  found_given fills e h d t =
+      let n = part_length frame 288 12 (omega arith) in
+      let same = and_right (leb 12 (length (replicate 12 dtx))) (all 12 (agree (take 12 (drop 288 frame)) (replicate 12 dtx))) (and_right (leb 12 (length (take 12 (drop 288 frame)))) _ (rw d at t)) in
+      given fills (front_every _ np (at_most 1 found) few e h)
+      (no_diff (take 12 (drop 288 frame)) (replicate 12 dtx) n (rw n (all_every 12 (agree (take 12 (drop 288 frame)) (replicate 12 dtx)) same)))
+
+-- each digit of a frame is that of its w digits, of which one is found; and each digit of a run that of a pair
+abbrev pub Fills : List ℕ → ℕ → List ℕ → Type 0
+Fills frame w found = (k : ℕ) → k < 288 → get_or frame k 0 ≡ get_or found (k / w) 0
+
+abbrev pub Pairs : List ℕ → List ℕ → Type 0
+Pairs s half = (k : ℕ) → k < length s → get_or s k 0 ≡ get_or half (k / 2) 0
+
+again : (frame twice half : List ℕ) (v w : ℕ) → ((k : ℕ) → k < 288 → (k / w ≡ k / v / 2) × (k / v < length twice)) → Fills frame v twice → Pairs twice half → Fills frame w half
+again frame twice half v w apart found pairs k h = let a = apart k h in rw a.0 (found k h ∙ pairs (k / v) a.1)
+
+-- digits that were found, halved and halved again
+pub by_2 : (frame found : List ℕ) → length frame ≡ 300 → Pairs (take 288 frame) found → Fills frame 2 found
+by_2 frame found long pairs k h =
+    let n : length (take 288 frame) ≡ 288 = length-take-le 288 frame (omega arith) in
+    sym (get_or-take 288 frame k 0 h) ∙ pairs k (rw n h)
+
+pub by_4 : (frame twice found : List ℕ) → length twice ≡ 144 → Fills frame 2 twice → Pairs twice found → Fills frame 4 found
+by_4 frame twice found n = again frame twice found 2 4 (λ k h. (omega arith, omega arith))
+
+pub by_8 : (frame twice found : List ℕ) → length twice ≡ 72 → Fills frame 4 twice → Pairs twice found → Fills frame 8 found
+by_8 frame twice found n = again frame twice found 4 8 (λ k h. (omega arith, omega arith))
+
+pub by_16 : (frame twice found : List ℕ) → length twice ≡ 36 → Fills frame 8 twice → Pairs twice found → Fills frame 16 found
+by_16 frame twice found n = again frame twice found 8 16 (λ k h. (omega arith, omega arith))
+
+-- an Np that is none of the last three
+pub first_np : (np : ℕ) → is_np np ≡ true → (np ≡ 144 → ⊥) → (np ≡ 72 → ⊥) → (np ≡ 36 → ⊥) → np ≡ 18
+first_np =
+    at_each (λ (n : ℕ). (n ≡ 144 → ⊥) → (n ≡ 72 → ⊥) → (n ≡ 36 → ⊥) → n ≡ 18)
+    (λ a b c. refl)
+    (λ a b c. absurd (c refl))
+    (λ a b c. absurd (b refl))
+    (λ a b c. absurd (a refl))
 
 -- a frame that is given is read at once, and its indicators are those that give it
 pub given_read : {np : ℕ} {frame indicators after : List ℕ} → is_np np ≡ true → length frame ≡ 300 → length indicators ≡ np → Gives np after frame

@@ -2,40 +2,48 @@
 #![tactic(auto)]
 
 ghost use Rattle.std.specs.Prelude.{◌≡◌, true, false, ℕ, ◌-◌, ◌*◌, ◌/◌, ◌%◌, ◌<◌, length, get_or};
-ghost use Rattle.run.specs.First.{first_bad, all, at_most};
+ghost use Rattle.std.specs.Option.{unwrap_or};
+ghost use Rattle.run.specs.Answers.{verdict_of};
+ghost use Rattle.run.specs.First.{first_bad};
 ghost use Rattle.pich.specs.Rule.{is_np, width, indicators_in};
 ghost use Rattle.pich.specs.Outcome.{stands, read_head, read_verdict, Read};
 ghost use Rattle.pich.specs.Exact.{Gives};
 
 use pich::{Indicator, first_digit, is_np};
-use run::{DTX, Verdict, found, or_else, refusal, unless};
+use run::{DTX, Reason, Refusal, refused_at, require};
 
 // The first digit that may not stand in a frame: group by group, then the tail.
-fn first_misfit(np: usize, frame: &[u8]) -> usize
+fn first_misfit(np: usize, frame: &[u8]) -> Option<usize>
     requires { (is_np np ≡ true) × (length frame.now ≡ 300) }
-    ensures { result ≡ first_bad (stands np frame.now) 300 }
+    ensures { unwrap_or result 300 ≡ first_bad (stands np frame.now) 300 }
 {
     let width = 288 / np;
-    let mut q = 0;
-    while q < np {
+    for q in 0..np {
         let start = first_digit(np, Indicator(q));
         let end = start + width;
-        let i = scan_equal::first_unlike(&frame[start..end]);
-        if i < width {
-            return start + i;
+        if let Some(i) = scan_equal::unlike(&frame[start..end]) {
+            return Some(start + i);
         }
-        q += 1;
     }
-    288 + scan_equal::first_other(&frame[288..300], DTX)
+    let i = scan_equal::other(&frame[288..300], DTX)?;
+    Some(288 + i)
 }
 
-fn read_head(np: usize, frame: &[u8], indicators_length: usize) -> Verdict
-    ensures { result ≡ read_head np frame.now indicators_length }
+fn check_head(np: usize, frame: &[u8], indicators_length: usize) -> Result<(), Refusal>
+    ensures { verdict_of result ≡ read_head np frame.now indicators_length }
 {
-    let digits = found(frame, scan::first_above(frame, 2), refusal::DIGIT, 0);
-    let second = or_else(unless(indicators_length == np, refusal::LENGTH, 1), digits);
-    let lengths = or_else(unless(frame.len() == 300, refusal::LENGTH, 0), second);
-    or_else(unless(is_np(np), refusal::NP, 0), lengths)
+    require(is_np(np), Reason::Np, 0)?;
+    require(frame.len() == 300, Reason::Length, 0)?;
+    require(indicators_length == np, Reason::Length, 1)?;
+    refused_at(frame, scan::above(frame, 2), Reason::Digit, 0)
+}
+
+// The checks in their order.
+fn check(np: usize, frame: &[u8], indicators_length: usize) -> Result<(), Refusal>
+    ensures { verdict_of result ≡ read_verdict np frame.now indicators_length }
+{
+    check_head(np, frame, indicators_length)?;
+    refused_at(frame, first_misfit(np, frame), Reason::Frame, 0)
 }
 
 // Each indicator from the first of its digits.
@@ -43,25 +51,19 @@ fn read_indicators(np: usize, frame: &[u8], indicators: &mut [u8])
     requires { (is_np np ≡ true) × (length frame.now ≡ 300) × (length indicators.old ≡ np) }
     ensures { indicators.new ≡ indicators_in np frame.now }
 {
-    let mut q = 0;
-    while q < np {
+    for q in 0..np {
         let start = first_digit(np, Indicator(q));
         indicators[q] = frame[start];
-        q += 1;
     }
 }
 
-// Np is good, and both lengths are right.
-fn lengths_fit(np: usize, frame_length: usize, indicators_length: usize) -> bool
-    ensures { result ≡ true → (is_np np ≡ true) × (frame_length ≡ 300) × (indicators_length ≡ np) }
+// The checks in their order, and then the indicators.
+fn read_checked(np: usize, frame: &[u8], indicators: &mut [u8]) -> Result<(), Refusal>
+    ensures { Read np frame.now indicators.old (verdict_of result) indicators.new }
 {
-    if frame_length != 300 {
-        return false;
-    }
-    if indicators_length != np {
-        return false;
-    }
-    is_np(np)
+    check(np, frame, indicators.len())?;
+    read_indicators(np, frame, indicators);
+    Ok(())
 }
 
 // What a pair of digits, as the number of the first and 256 times the second, leaves of 65535: a multiple of 257 only where the digits are equal. As the compiler has no
@@ -79,135 +81,67 @@ fn digit_of(left: u16) -> u8
     255 - (left / 257) as u8
 }
 
-// Each pair of digits as one, where all pairs are of equal digits.
+// Each pair of digits as one, where all pairs are of equal digits. A pass that takes no early way out can go many pairs at a time.
 fn halve(run: &[u8], half: &mut [u8]) -> bool
     requires { length run.now ≡ 2 * length half.old }
     ensures { result ≡ true → (k : ℕ) → k < length run.now → get_or run.now k 0 ≡ get_or half.new (k / 2) 0 }
 {
     let mut good = true;
-    let mut i = 0;
-    while i < half.len() {
+    for i in 0..half.len() {
         let j = 2 * i;
         let left = left_of(run[j], run[j + 1]);
         if left % 257 != 0 {
             good = false;
         }
         half[i] = digit_of(left);
-        i += 1;
     }
     good
 }
 
-// The indicators of a frame of 144, where each fills its two digits. Those of a frame of fewer are these, halved again and again.
-fn find_144(frame: &[u8], found: &mut [u8]) -> bool
-    requires { (length frame.now ≡ 300) × (length found.old ≡ 144) }
-    ensures { result ≡ true → (k : ℕ) → k < 288 → get_or frame.now k 0 ≡ get_or found.new (k / 2) 0 }
+// Where what was found is 0 and 1, and the tail is DTX, it gives the frame, and is kept.
+fn keep<const NP: usize>(frame: &[u8], found: &[u8; NP], indicators: &mut [u8]) -> bool
+    requires { (is_np NP ≡ true) × (length frame.now ≡ 300) × (length indicators.old ≡ NP) × ((k : ℕ) → k < 288 → get_or frame.now k 0 ≡ get_or found.now (k / width NP) 0) }
+    ensures { (result ≡ true → Gives NP indicators.new frame.now) × (result ≡ false → indicators.new ≡ indicators.old) }
 {
-    halve(&frame[0..288], found)
-}
-
-fn find_72(frame: &[u8], found: &mut [u8]) -> bool
-    requires { (length frame.now ≡ 300) × (length found.old ≡ 72) }
-    ensures { result ≡ true → (k : ℕ) → k < 288 → get_or frame.now k 0 ≡ get_or found.new (k / 4) 0 }
-{
-    let mut twice = [0u8; 144];
-    if find_144(frame, &mut twice) {
-        return halve(&twice, found);
-    }
-    false
-}
-
-fn find_36(frame: &[u8], found: &mut [u8]) -> bool
-    requires { (length frame.now ≡ 300) × (length found.old ≡ 36) }
-    ensures { result ≡ true → (k : ℕ) → k < 288 → get_or frame.now k 0 ≡ get_or found.new (k / 8) 0 }
-{
-    let mut twice = [0u8; 72];
-    if find_72(frame, &mut twice) {
-        return halve(&twice, found);
-    }
-    false
-}
-
-fn find_18(frame: &[u8], found: &mut [u8]) -> bool
-    requires { (length frame.now ≡ 300) × (length found.old ≡ 18) }
-    ensures { result ≡ true → (k : ℕ) → k < 288 → get_or frame.now k 0 ≡ get_or found.new (k / 16) 0 }
-{
-    let mut twice = [0u8; 36];
-    if find_36(frame, &mut twice) {
-        return halve(&twice, found);
-    }
-    false
-}
-
-// Whether what was found is 0 and 1. A loop of any length goes 32 digits at a time and then four: 144, which leave some over, are worth a look whose length is a number.
-fn are_bits(found: &[u8]) -> bool
-    ensures { result ≡ all (length found.now) (at_most 1 found.now) }
-{
-    match found.len() {
-        144 => scan::all_at_most(found, 1, 144),
-        _ => found.len() <= scan::first_above(found, 1),
-    }
-}
-
-// Whether the indicators that were found are 0 and 1, and the tail is DTX. Then they give the frame, and are kept.
-fn keep(np: usize, frame: &[u8], found: &[u8], indicators: &mut [u8]) -> bool
-    requires { (is_np np ≡ true) × (length frame.now ≡ 300) × (length found.now ≡ np) × (length indicators.old ≡ np) × ((k : ℕ) → k < 288 → get_or frame.now k 0 ≡ get_or found.now (k / width np) 0) }
-    ensures { (result ≡ true → Gives np indicators.new frame.now) × (result ≡ false → indicators.new ≡ indicators.old) }
-{
-    if !are_bits(found) {
+    if !scan::all_at_most(found, 1, NP) {
         return false;
     }
-    let tail = [DTX; 12];
-    if scan_diff::first_diff(&frame[288..300], &tail) < 12 {
+    if !scan_diff::same_front(&frame[288..300], &[DTX; 12], 12) {
         return false;
     }
-    write::copy(indicators, found);
+    indicators.copy_from_slice(found);
     true
 }
 
-// The indicators of a frame that is given by some: a function for each number of them, in which every length is a number and not a variable.
-fn take_18(frame: &[u8], indicators: &mut [u8]) -> bool
-    requires { (length frame.now ≡ 300) × (length indicators.old ≡ 18) }
-    ensures { (result ≡ true → Gives 18 indicators.new frame.now) × (result ≡ false → indicators.new ≡ indicators.old) }
+// The indicators of a frame that is given by some. Of 144 each fills its two digits; those of a frame of fewer are these, halved again and again. As Np is a number and not a
+// variable, so is every length.
+fn take<const NP: usize>(frame: &[u8], indicators: &mut [u8]) -> bool
+    requires { (is_np NP ≡ true) × (length frame.now ≡ 300) × (length indicators.old ≡ NP) }
+    ensures { (result ≡ true → Gives NP indicators.new frame.now) × (result ≡ false → indicators.new ≡ indicators.old) }
 {
-    let mut found = [0u8; 18];
-    if find_18(frame, &mut found) {
-        return keep(18, frame, &found, indicators);
+    let mut of_144 = [0; 144];
+    if !halve(&frame[..288], &mut of_144) {
+        return false;
     }
-    false
-}
-
-fn take_36(frame: &[u8], indicators: &mut [u8]) -> bool
-    requires { (length frame.now ≡ 300) × (length indicators.old ≡ 36) }
-    ensures { (result ≡ true → Gives 36 indicators.new frame.now) × (result ≡ false → indicators.new ≡ indicators.old) }
-{
-    let mut found = [0u8; 36];
-    if find_36(frame, &mut found) {
-        return keep(36, frame, &found, indicators);
+    if NP == 144 {
+        return keep(frame, &of_144, indicators);
     }
-    false
-}
-
-fn take_72(frame: &[u8], indicators: &mut [u8]) -> bool
-    requires { (length frame.now ≡ 300) × (length indicators.old ≡ 72) }
-    ensures { (result ≡ true → Gives 72 indicators.new frame.now) × (result ≡ false → indicators.new ≡ indicators.old) }
-{
-    let mut found = [0u8; 72];
-    if find_72(frame, &mut found) {
-        return keep(72, frame, &found, indicators);
+    let mut of_72 = [0; 72];
+    if !halve(&of_144, &mut of_72) {
+        return false;
     }
-    false
-}
-
-fn take_144(frame: &[u8], indicators: &mut [u8]) -> bool
-    requires { (length frame.now ≡ 300) × (length indicators.old ≡ 144) }
-    ensures { (result ≡ true → Gives 144 indicators.new frame.now) × (result ≡ false → indicators.new ≡ indicators.old) }
-{
-    let mut found = [0u8; 144];
-    if find_144(frame, &mut found) {
-        return keep(144, frame, &found, indicators);
+    if NP == 72 {
+        return keep(frame, &of_72, indicators);
     }
-    false
+    let mut of_36 = [0; 36];
+    if !halve(&of_72, &mut of_36) {
+        return false;
+    }
+    if NP == 36 {
+        return keep(frame, &of_36, indicators);
+    }
+    let mut of_18 = [0; 18];
+    halve(&of_36, &mut of_18) && keep(frame, &of_18, indicators)
 }
 
 fn take_given(np: usize, frame: &[u8], indicators: &mut [u8]) -> bool
@@ -215,47 +149,26 @@ fn take_given(np: usize, frame: &[u8], indicators: &mut [u8]) -> bool
     ensures { (result ≡ true → Gives np indicators.new frame.now) × (result ≡ false → indicators.new ≡ indicators.old) }
 {
     match np {
-        18 => take_18(frame, indicators),
-        36 => take_36(frame, indicators),
-        72 => take_72(frame, indicators),
-        _ => take_144(frame, indicators),
+        18 => take::<18>(frame, indicators),
+        36 => take::<36>(frame, indicators),
+        72 => take::<72>(frame, indicators),
+        _ => take::<144>(frame, indicators),
     }
 }
 
-fn read_verdict(np: usize, frame: &[u8], indicators_length: usize) -> Verdict
-    ensures { result ≡ read_verdict np frame.now indicators_length }
+// Np is good, and both lengths are right.
+fn lengths_fit(np: usize, frame_length: usize, indicators_length: usize) -> bool
+    ensures { result ≡ true → (is_np np ≡ true) × (frame_length ≡ 300) × (indicators_length ≡ np) }
 {
-    let head = read_head(np, frame, indicators_length);
-    if head.number != 0 {
-        return head;
-    }
-    let k = first_misfit(np, frame);
-    unless(300 <= k, refusal::FRAME, k)
-}
-
-// The checks in their order, and then the indicators.
-fn read_checked(np: usize, frame: &[u8], indicators: &mut [u8]) -> Verdict
-    ensures { Read np frame.now indicators.old result indicators.new }
-{
-    let verdict = read_verdict(np, frame, indicators.len());
-    if verdict.number != 0 {
-        return verdict;
-    }
-    read_indicators(np, frame, indicators);
-    verdict
+    frame_length == 300 && indicators_length == np && is_np(np)
 }
 
 // The indicators of a frame, or the refusal and the indicators as they were. What is given is accepted at once. Else the checks in their order find the refusal.
-pub fn read(np: usize, frame: &[u8], indicators: &mut [u8]) -> Verdict
-    ensures { Read np frame.now indicators.old result indicators.new }
+pub fn read(np: usize, frame: &[u8], indicators: &mut [u8]) -> Result<(), Refusal>
+    ensures { Read np frame.now indicators.old (verdict_of result) indicators.new }
 {
-    if lengths_fit(np, frame.len(), indicators.len()) {
-        if take_given(np, frame, indicators) {
-            return Verdict {
-                number: 0,
-                place: 0,
-            };
-        }
+    if lengths_fit(np, frame.len(), indicators.len()) && take_given(np, frame, indicators) {
+        return Ok(());
     }
     read_checked(np, frame, indicators)
 }

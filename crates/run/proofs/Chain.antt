@@ -9,7 +9,7 @@ use native.Mathlib.Omega.{arith}
 use borrow.Author.Tests.{eqb-true, eqb-false, eq-eqb, ne_eqb, leb-false, lt-leb}
 use lib.Dec.{eqb, leb, lit<}
 use lib.ListN.{length, get_or}
-use Rattle.run.specs.declared.Verdict.{Verdict}
+use Rattle.run.specs.Verdict.{Verdict}
 use Rattle.run.specs.First.{first_bad, all, Every}
 use Rattle.run.specs.Verdicts.{refused, done, or_else, unless, each, lengths, chain, leaves, Narrow}
 use Rattle.run.proofs.First.{first_le}

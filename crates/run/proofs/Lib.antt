@@ -1,8 +1,10 @@
 pub mod Bools
 pub mod First
+pub mod Places
 pub mod Passing
 pub mod Backward
 pub mod Chain
+pub mod Answers
 pub mod Each
 pub mod Front
 pub mod Over

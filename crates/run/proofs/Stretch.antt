@@ -8,7 +8,7 @@ use native.Mathlib.Omega.{arith}
 use borrow.Rule.Slice.PartMut.{put_mid, mid_of}
 use lib.Dec.{leb}
 use lib.ListN.{length, get_or, take, drop, replicate}
-use Rattle.run.specs.declared.Verdict.{Verdict}
+use Rattle.run.specs.Verdict.{Verdict}
 use Rattle.run.specs.First.{first_bad, agree}
 use Rattle.run.specs.Fields.{total, joined, field, start}
 use Rattle.run.specs.Verdicts.{unless, each}

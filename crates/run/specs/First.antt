@@ -35,3 +35,7 @@ like_first s k = not (eqb (get_or s k 0) dtx) && eqb (get_or s k 0) (get_or s 0 
 -- two runs have the same digit at place k
 abbrev pub agree : List ℕ → List ℕ → ℕ → Bool
 agree s t k = eqb (get_or s k 0) (get_or t k 0)
+
+-- a digit is DTX, or is not v
+abbrev pub is_unlike : ℕ → ℕ → Bool
+is_unlike v digit = not (not (eqb digit dtx) && eqb digit v)

@@ -1,7 +1,9 @@
 pub mod Digits
 pub mod Refusals
 pub mod First
+pub mod Verdict
 pub mod Verdicts
+pub mod Answers
 pub mod Table
 pub mod Fields
 pub mod Parts

@@ -1,7 +1,7 @@
 -- docs/RULES.md, 'Numbers a call can return': the first check that fails is told, and within one check the lowest place.
 -- Assumes nothing.
 use Rattle.std.specs.Prelude.{ℕ, zero, suc, ◌+◌, ◌<◌, Bool, true, cond, List, length, get_or, eqb}
-use Rattle.run.specs.declared.Verdict.{Verdict}
+use Rattle.run.specs.Verdict.{Verdict}
 use Rattle.run.specs.First.{first_bad, all}
 use Rattle.run.specs.Refusals.{length_refused}
 

@@ -1,71 +1,57 @@
 // Verdicts and their order, and what is said of runs of digits. No channel's rule stands here.
 #![tactic(auto)]
 
-ghost use Rattle.std.specs.Prelude.{◌≡◌, [], ◌∷◌, ◌+◌, min, leb, length};
+ghost use Rattle.std.specs.List.{position};
+ghost use Rattle.std.specs.Prelude.{◌≡◌, not, [], ◌∷◌, ◌+◌, min, leb, length};
+ghost use Rattle.std.specs.Option.{unwrap_or};
+ghost use Rattle.run.specs.Answers.{number_of, verdict_of};
 ghost use Rattle.run.specs.Verdicts.{or_else, unless, lengths};
 
 pub mod refusal;
 
+pub use refusal::{Reason, Refusal};
+
 // DTX as a digit: nothing is sent (docs/RULES.md, 'Digits').
 pub const DTX: u8 = 2;
 
-// What a call answers: 0 and 0 where it is done, else the refusal's number and place.
-#[derive(Clone, Copy)]
-pub struct Verdict {
-    pub number: usize,
-    pub place: usize,
-}
-
-// The first of two checks that refuses.
-pub fn or_else(v: Verdict, w: Verdict) -> Verdict
-    ensures { result ≡ or_else v w }
-{
-    if v.number == 0 { w } else { v }
-}
-
-// Refused with this number and place where the test fails.
-pub fn unless(ok: bool, number: usize, place: usize) -> Verdict
-    ensures { result ≡ unless ok number place }
+// Refused for this reason at this place where the test fails.
+pub fn require(ok: bool, reason: Reason, place: usize) -> Result<(), Refusal>
+    ensures { verdict_of result ≡ unless ok (number_of reason) place }
 {
     if ok {
-        Verdict {
-            number: 0,
-            place: 0,
-        }
+        Ok(())
     } else {
-        Verdict { number, place }
+        Err(Refusal { reason, place })
     }
 }
 
-// 3 at the first run that has the wrong length: whether each of a call's runs has its own, in the order of the call. A call with fewer runs says true of the rest.
-pub fn lengths(first: bool, second: bool, third: bool, fourth: bool) -> Verdict
-    ensures { result ≡ lengths (first ∷ second ∷ third ∷ fourth ∷ []) }
+// The first run whose length is not right.
+fn first_wrong(right: &[bool]) -> Option<usize>
+    ensures { result ≡ position not right.now }
 {
-    let last = unless(fourth, refusal::LENGTH, 3);
-    let later = or_else(unless(third, refusal::LENGTH, 2), last);
-    let rest = or_else(unless(second, refusal::LENGTH, 1), later);
-    or_else(unless(first, refusal::LENGTH, 0), rest)
+    right.iter().position(|ok| !*ok)
 }
 
-// Refused at place i of the run, counted from `base`, where i is one of its places: what a scan's answer means.
-pub fn found(s: &[u8], i: usize, number: usize, base: u32) -> Verdict
-    ensures { result ≡ unless (leb (length s.now) i) number (base + i) }
+// Refused for a wrong length at the first run that has one: whether each of a call's runs has its own, in the order of the call.
+pub fn lengths_are(right: &[bool]) -> Result<(), Refusal>
+    ensures { verdict_of result ≡ lengths right.now }
 {
+    match first_wrong(right) {
+        None => Ok(()),
+        Some(place) => require(false, Reason::Length, place),
+    }
+}
+
+// Refused at the place of the run that a scan found, counted from `base`.
+pub fn refused_at(s: &[u8], found: Option<usize>, reason: Reason, base: u32) -> Result<(), Refusal>
+    ensures { verdict_of result ≡ unless (leb (length s.now) (unwrap_or found (length s.now))) (number_of reason) (base + unwrap_or found (length s.now)) }
+{
+    let i = found.unwrap_or(s.len());
     if s.len() <= i {
-        return Verdict {
-            number: 0,
-            place: 0,
-        };
+        return Ok(());
     }
-    Verdict {
-        number,
+    Err(Refusal {
+        reason,
         place: base as usize + i,
-    }
-}
-
-// The smaller of two lengths.
-pub fn shorter(a: usize, b: usize) -> usize
-    ensures { result ≡ min a b }
-{
-    if a <= b { a } else { b }
+    })
 }

@@ -14,7 +14,7 @@ use lib.Ieee.{Float, nan, inf, fin, binary32, up, down, neg, mul, le, to_bits}
 use lib.Ieee.Bits.{is_true}
 use lib.Ieee.Fits.{and_i, and_l, of_int-fits, down_pos}
 use lib.Ieee.Positive.{positive, le→cross, cross→le, first_pos}
-use Rattle.run.specs.declared.Verdict.{Verdict}
+use Rattle.run.specs.Verdict.{Verdict}
 use Rattle.run.specs.First.{first_bad}
 use Rattle.run.specs.Verdicts.{done, or_else, unless, each, leaves, Narrow}
 use Rattle.run.proofs.Chain.{or_else_done, or_else_pass, unless_done, unless_pass, or_else_narrow, unless_narrow, check_narrow, leaves_refused, one_outcome, number_0}

@@ -1,6 +1,6 @@
 -- Laws of the definitions of specs/: a value as a float, its product with a level, and what is known where no check refused.
 -- Assumes nothing.
-use mathlib.Core.Path.{◌≡◌, refl, sym, ◌∙◌, subst}
+use mathlib.Core.Path.{◌≡◌, refl, sym, ap, ◌∙◌, subst}
 use mathlib.Core.Bool.{Bool, true, false, cond, ◌&&◌, false≢true, true≢false}
 use Prim.Native.Nat.{ℕ, zero, suc, ◌+◌, ◌*◌, ◌^◌, ◌≤◌, ◌<◌}
 use native.Mathlib.Nat.{le_trans, zero-lt-suc, mul-pos, mul-one, one-mul, zero-mul, mul_assoc, mul_left_comm}
@@ -14,13 +14,19 @@ use lib.Ieee.Exact.{HasValue}
 use lib.Ieee.Back.{round_whole}
 use lib.Ieee.Positive.{positive, between, cross→le, mul_mono}
 use lib.Ieee.Scale.{round_same}
-use Rattle.run.specs.Verdicts.{done, unless}
-use Rattle.run.proofs.Chain.{or_else_done, unless_done, or_else_pass, unless_pass}
+use Rattle.std.specs.Prelude.{Result, Ok, Err}
+use Rattle.std.specs.Result.{IsErrAnd}
+use Rattle.run.specs.declared.refusal.Refusal.{Refusal}
+use Rattle.run.specs.Answers.{number_of}
+use Rattle.run.specs.Verdicts.{refused}
+use Rattle.run.proofs.Answers.{left}
+use Rattle.run.proofs.Chain.{or_else_done, unless_done}
 use Rattle.run.specs.Ranges as ranges
 use Rattle.sample.specs.declared.Setting.{Setting}
-use Rattle.sample.specs.declared.Setting.TheVariants.{Off, Shared, Each}
 use Rattle.sample.specs.Rule.{is_value, lowest, highest, is_level, plus_zero, times}
-use Rattle.sample.specs.Outcome.{levels_verdict, take_verdict}
+use Rattle.sample.specs.declared.Sample.{Sample}
+use Rattle.sample.specs.Answers.{sampled_of}
+use Rattle.sample.specs.Outcome.{levels_verdict, take_verdict, Take}
 use Rattle.sample.specs.Exact.{Whole}
 
 -- ---- two tests, the second made only where the first passed
@@ -181,24 +187,9 @@ taken i q setting antenna h =
       antenna_ok = ltb-true _ _ (unless_done _ 11 4 (lit< tt) c.rest);
     }
 
--- a check that refuses nothing answers what a call that is done answers
-clear : (ok : Bool) (number place : ℕ) → 0 < number → (unless ok number place).number ≡ 0 → unless ok number place ≡ done
-clear ok number place some h = unless_pass number place (unless_done ok number place some h)
-
-levels_clear : (setting : Setting) → (levels_verdict setting).number ≡ 0 → levels_verdict setting ≡ done
-unfolding levels_verdict
-levels_clear Off h = refl
-levels_clear (Shared level) h = clear _ 11 2 (lit< tt) h
-levels_clear (Each first second) h =
-    let c = or_else_done _ _ h in
-    or_else_pass (clear _ 11 2 (lit< tt) c.first) (clear _ 11 3 (lit< tt) c.rest)
-
-pub taken_done : (i q : ℤ) (setting : Setting) (antenna : ℕ) → (take_verdict i q setting antenna).number ≡ 0 → done ≡ take_verdict i q setting antenna
-unfolding take_verdict
-taken_done i q setting antenna h =
-    let a = or_else_done _ _ h in
-    let b = or_else_done _ _ a.rest in
-    let c = or_else_done _ _ b.rest in
-    sym (or_else_pass (clear _ 11 0 (lit< tt) a.first)
-    (or_else_pass (clear _ 11 1 (lit< tt) b.first)
-    (or_else_pass (levels_clear setting c.first) (clear _ 11 4 (lit< tt) c.rest))))
+-- a refusal that is handed on
+pub refused_take : {i q : ℤ} {setting : Setting} {antenna : ℕ} (r : Result Sample Refusal) (x : Refusal) → IsErrAnd r (λ e. e ≡ x)
+    → refused (number_of x.reason) x.place ≡ take_verdict i q setting antenna → Take i q setting antenna (sampled_of r)
+refused_take (Ok sample) x h e = absurd h
+refused_take (Err y) x h e =
+    record { verdict_is = ap (λ z. refused (number_of z.reason) z.place) h ∙ e; inphase_is = left x _ _ e; quadrature_is = left x _ _ e }

@@ -11,7 +11,7 @@ use Rattle.run.specs.Verdicts.{refused, done, each, Narrow}
 use Rattle.sample.specs.declared.Setting.{Setting}
 use Rattle.sample.specs.declared.Setting.TheVariants.{Off, Shared, Each}
 use Rattle.sample.specs.declared.Sample.{Sample}
-use Rattle.sample.specs.declared.Sampled.{Sampled}
+use Rattle.sample.specs.Answers.{Sampled}
 use Rattle.sample.specs.Rule.{is_value, is_level, lowest, plus_zero, times, part}
 use Rattle.sample.specs.Outcome.{take_verdict, Take}
 

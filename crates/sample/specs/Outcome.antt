@@ -2,12 +2,12 @@
 -- antenna number.
 -- Assumes nothing.
 use Rattle.std.specs.Prelude.{ℕ, ◌≡◌, ltb, ℤ}
-use Rattle.run.specs.declared.Verdict.{Verdict}
+use Rattle.run.specs.Verdict.{Verdict}
 use Rattle.run.specs.Refusals.{range_refused}
 use Rattle.run.specs.Verdicts.{done, or_else, unless, leaves}
 use Rattle.sample.specs.declared.Setting.{Setting}
 use Rattle.sample.specs.declared.Setting.TheVariants.{Off, Shared, Each}
-use Rattle.sample.specs.declared.Sampled.{Sampled}
+use Rattle.sample.specs.Answers.{Sampled}
 use Rattle.sample.specs.Rule.{is_value, is_level, plus_zero, part}
 
 -- the number and place for each case of the setting: 11, place 2 (antenna 1 or shared) or 3 (antenna 2), each level being checked whichever antenna is

@@ -2,10 +2,12 @@
 #![tactic(auto)]
 
 ghost use Rattle.std.specs.Prelude.{◌≡◌, true};
+ghost use Rattle.run.specs.Answers.{verdict_of};
+ghost use Rattle.sample.specs.Answers.{sampled_of};
 ghost use Rattle.sample.specs.Rule.{is_value, is_level, times, part};
 ghost use Rattle.sample.specs.Outcome.{levels_verdict, take_verdict, Take};
 
-use run::{Verdict, or_else, refusal, unless};
+use run::{Reason, Refusal, require};
 
 // 1/1024 and 1024, the ends of the range of a level. Both are exact.
 const LOWEST: f32 = 0.0009765625;
@@ -27,13 +29,6 @@ pub struct Sample {
     pub quadrature: f32,
 }
 
-// What `take` answers: the sample, +0 and +0 where refused.
-#[derive(Clone, Copy)]
-pub struct Sampled {
-    pub verdict: Verdict,
-    pub sample: Sample,
-}
-
 fn is_value(v: i64) -> bool
     ensures { result ≡ is_value v }
 {
@@ -44,32 +39,30 @@ fn is_value(v: i64) -> bool
 fn is_level(x: f32) -> bool
     ensures { result ≡ is_level x }
 {
-    if LOWEST <= x { x <= HIGHEST } else { false }
+    LOWEST <= x && x <= HIGHEST
 }
 
-fn levels_verdict(setting: Setting) -> Verdict
-    ensures { result ≡ levels_verdict setting }
+// The levels are checked in their order, whichever antenna is asked for.
+fn check_levels(setting: Setting) -> Result<(), Refusal>
+    ensures { verdict_of result ≡ levels_verdict setting }
 {
     match setting {
-        Setting::Off => Verdict {
-            number: 0,
-            place: 0,
-        },
-        Setting::Shared(level) => unless(is_level(level), refusal::RANGE, 2),
+        Setting::Off => Ok(()),
+        Setting::Shared(level) => require(is_level(level), Reason::Range, 2),
         Setting::Each(first, second) => {
-            let last = unless(is_level(second), refusal::RANGE, 3);
-            or_else(unless(is_level(first), refusal::RANGE, 2), last)
+            require(is_level(first), Reason::Range, 2)?;
+            require(is_level(second), Reason::Range, 3)
         }
     }
 }
 
-fn take_verdict(i: i64, q: i64, setting: Setting, antenna: usize) -> Verdict
-    ensures { result ≡ take_verdict i q setting antenna }
+fn check(i: i64, q: i64, setting: Setting, antenna: usize) -> Result<(), Refusal>
+    ensures { verdict_of result ≡ take_verdict i q setting antenna }
 {
-    let last = unless(antenna < 2, refusal::RANGE, 4);
-    let levels = or_else(levels_verdict(setting), last);
-    let second = or_else(unless(is_value(q), refusal::RANGE, 1), levels);
-    or_else(unless(is_value(i), refusal::RANGE, 0), second)
+    require(is_value(i), Reason::Range, 0)?;
+    require(is_value(q), Reason::Range, 1)?;
+    check_levels(setting)?;
+    require(antenna < 2, Reason::Range, 4)
 }
 
 // The value is exact as an f32, so the product is the one rounding.
@@ -98,29 +91,13 @@ fn part(setting: Setting, antenna: usize, v: i64) -> f32
     }
 }
 
-// The sample that an antenna sends (number 0 is antenna 1, number 1 is antenna 2) of two whole values, or the refusal and +0, +0. Where nothing is refused the answer
-// is written out, so that it need not wait for the place that would have been told.
-pub fn take(i: i64, q: i64, setting: Setting, antenna: usize) -> Sampled
-    ensures { Take i q setting antenna result }
+// The sample that an antenna sends (number 0 is antenna 1, number 1 is antenna 2) of two whole values, or the refusal.
+pub fn take(i: i64, q: i64, setting: Setting, antenna: usize) -> Result<Sample, Refusal>
+    ensures { Take i q setting antenna (sampled_of result) }
 {
-    let verdict = take_verdict(i, q, setting, antenna);
-    if verdict.number != 0 {
-        return Sampled {
-            verdict,
-            sample: Sample {
-                inphase: 0.0,
-                quadrature: 0.0,
-            },
-        };
-    }
-    Sampled {
-        verdict: Verdict {
-            number: 0,
-            place: 0,
-        },
-        sample: Sample {
-            inphase: part(setting, antenna, i),
-            quadrature: part(setting, antenna, q),
-        },
-    }
+    check(i, q, setting, antenna)?;
+    Ok(Sample {
+        inphase: part(setting, antenna, i),
+        quadrature: part(setting, antenna, q),
+    })
 }

@@ -1,42 +1,34 @@
-// Scans of a run for a digit above a limit. A scan answers the first place that fails its test, or the number of places where none does; a look answers whether none does.
+// Scans of a run for a digit above a limit: the first place of one, or whether there is none.
 #![tactic(auto)]
 
-ghost use Rattle.std.specs.Prelude.{◌≡◌, ◌&&◌, leb, length};
-ghost use Rattle.run.specs.First.{first_bad, all, Every, at_most};
+ghost use Rattle.std.specs.List.{position};
+ghost use Rattle.std.specs.Prelude.{◌≡◌, ◌&&◌, leb, ltb, length};
+ghost use Rattle.run.specs.First.{all, Every, at_most};
 
-// A digit that none of the run is above. A loop that takes no early way out can go many digits at a time.
+// A digit that none of the run is above. A pass that takes no early way out can go many digits at a time.
 fn highest(s: &[u8]) -> u8
     ensures { Every (at_most result s.now) (length s.now) }
 {
     let mut high = 0;
-    let mut i = 0;
-    while i < s.len() {
-        if high < s[i] {
-            high = s[i];
+    for digit in s {
+        if high < *digit {
+            high = *digit;
         }
-        i += 1;
     }
     high
 }
 
 // The first place whose digit is above `top`.
-pub fn first_above(s: &[u8], top: u8) -> usize
-    ensures { result ≡ first_bad (at_most top s.now) (length s.now) }
+pub fn above(s: &[u8], top: u8) -> Option<usize>
+    ensures { result ≡ position (λ digit. ltb top digit) s.now }
 {
     if highest(s) <= top {
-        return s.len();
+        return None;
     }
-    let mut i = 0;
-    while i < s.len() {
-        if top < s[i] {
-            return i;
-        }
-        i += 1;
-    }
-    i
+    s.iter().position(|digit| top < *digit)
 }
 
-// Whether the run has n digits and none of its first n is above `top`. Where the caller names n the loop has a constant length.
+// Whether the run has n digits and none of its first n is above `top`. Where the caller names n the pass has a constant length.
 pub fn all_at_most(s: &[u8], top: u8, n: usize) -> bool
     ensures { result ≡ (leb n (length s.now) && all n (at_most top s.now)) }
 {
@@ -44,12 +36,10 @@ pub fn all_at_most(s: &[u8], top: u8, n: usize) -> bool
         return false;
     }
     let mut good = true;
-    let mut k = 0;
-    while k < n {
-        if top < s[k] {
+    for digit in &s[..n] {
+        if top < *digit {
             good = false;
         }
-        k += 1;
     }
     good
 }

@@ -1,43 +1,32 @@
 // Two runs side by side: the first place at which they differ, and whether they begin alike.
 #![tactic(auto)]
 
-ghost use Rattle.std.specs.Prelude.{◌≡◌, ◌&&◌, ◌≤◌, min, leb, length};
-ghost use Rattle.run.specs.First.{first_bad, all, agree};
+ghost use Rattle.std.specs.List.{position, zip};
+ghost use Rattle.std.specs.Prelude.{◌≡◌, ◌==◌, not, ◌&&◌, ◌≤◌, leb, length};
+ghost use Rattle.run.specs.First.{all, agree};
 
-use run::shorter;
-
-// Whether the first n digits of two runs are the same.
+// Whether the first n digits of two runs are the same. A pass that takes no early way out can go many digits at a time.
 fn all_agree(s: &[u8], t: &[u8], n: usize) -> bool
     requires { (n ≤ length s.now) × (n ≤ length t.now) }
     ensures { result ≡ all n (agree s.now t.now) }
 {
     let mut good = true;
-    let mut k = 0;
-    while k < n {
+    for k in 0..n {
         if s[k] != t[k] {
             good = false;
         }
-        k += 1;
     }
     good
 }
 
 // The first place at which two runs differ, as far as the shorter goes.
-pub fn first_diff(s: &[u8], t: &[u8]) -> usize
-    ensures { result ≡ first_bad (agree s.now t.now) (min (length s.now) (length t.now)) }
+pub fn difference(s: &[u8], t: &[u8]) -> Option<usize>
+    ensures { result ≡ position (λ pair. not (pair.0 == pair.1)) (zip s.now t.now) }
 {
-    let n = shorter(s.len(), t.len());
-    if all_agree(s, t, n) {
-        return n;
+    if all_agree(s, t, s.len().min(t.len())) {
+        return None;
     }
-    let mut i = 0;
-    while i < n {
-        if s[i] != t[i] {
-            return i;
-        }
-        i += 1;
-    }
-    i
+    s.iter().zip(t.iter()).position(|(a, b)| *a != *b)
 }
 
 // Whether two runs have n digits, and their first n are the same.

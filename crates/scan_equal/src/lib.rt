@@ -1,49 +1,33 @@
-// Scans of a run for one digit: each answers the first place that fails its test, or the number of places where none does.
+// Scans of a run for one digit: each answers the first place that it looks for.
 #![tactic(auto)]
 
-ghost use Rattle.std.specs.Prelude.{◌≡◌, length};
-ghost use Rattle.run.specs.First.{first_bad, is_at, not_at, like_first};
+ghost use Rattle.std.specs.List.{position};
+ghost use Rattle.std.specs.Prelude.{◌≡◌, ◌==◌, not, get_or};
+ghost use Rattle.run.specs.First.{is_unlike};
 
 use run::DTX;
 
 // The first place whose digit is not `v`.
-pub fn first_other(s: &[u8], v: u8) -> usize
-    ensures { result ≡ first_bad (is_at v s.now) (length s.now) }
+pub fn other(s: &[u8], v: u8) -> Option<usize>
+    ensures { result ≡ position (λ digit. not (digit == v)) s.now }
 {
-    let mut i = 0;
-    while i < s.len() {
-        if s[i] != v {
-            return i;
-        }
-        i += 1;
-    }
-    i
+    s.iter().position(|digit| *digit != v)
 }
 
 // The first place whose digit is `v`.
-pub fn first_equal(s: &[u8], v: u8) -> usize
-    ensures { result ≡ first_bad (not_at v s.now) (length s.now) }
+pub fn equal(s: &[u8], v: u8) -> Option<usize>
+    ensures { result ≡ position (λ digit. digit == v) s.now }
 {
-    let mut i = 0;
-    while i < s.len() {
-        if s[i] == v {
-            return i;
-        }
-        i += 1;
-    }
-    i
+    s.iter().position(|digit| *digit == v)
 }
 
 // The first place whose digit is DTX or differs from the run's first.
-pub fn first_unlike(s: &[u8]) -> usize
-    ensures { result ≡ first_bad (like_first s.now) (length s.now) }
+pub fn unlike(s: &[u8]) -> Option<usize>
+    ensures { result ≡ position (is_unlike (get_or s.now 0 0)) s.now }
 {
-    if s.len() == 0 {
-        return 0;
-    }
-    let v = s[0];
+    let v = *s.first()?;
     if v == DTX {
-        return 0;
+        return Some(0);
     }
-    first_other(s, v)
+    other(s, v)
 }

@@ -1,7 +1,6 @@
 -- The fields of a slot: where they begin, how long they are, and a slot written or cut field by field.
 -- Assumes nothing.
 use mathlib.Core.Path.{◌≡◌, refl, sym, ap, ◌∙◌}
-use mathlib.Core.Bool.{Bool, true, false, not, beq}
 use mathlib.Core.List.{List, [], map}
 use Prim.Native.Nat.{ℕ, ◌+◌, ◌-◌, ◌≤◌, ◌<◌}
 use native.Mathlib.Nat.{add-zero}
@@ -9,13 +8,15 @@ use native.Mathlib.Omega.{arith}
 use borrow.Rule.Slice.PartMut.{put_mid, mid_of}
 use lib.ListN.{length, get_or, take, drop, replicate, length-append, length-drop, length-replicate}
 use lib.Seq.{length-take-le, take_all, take_at, drop_at}
-use lib.Dec.{eqb, lit<}
-use borrow.Author.Tests.{eq-eqb, ne_eqb}
-use Rattle.run.specs.Digits.{dtx}
-use Rattle.run.specs.First.{first_bad, is_at, not_at}
+use lib.Dec.{lit<}
+use borrow.Author.Tests.{eq-eqb}
+use Rattle.std.specs.Prelude.{Option}
+use Rattle.std.specs.Option.{unwrap_or}
+use Rattle.std.specs.List.{position}
+use Rattle.run.specs.First.{first_bad}
 use Rattle.run.specs.Fields.{total, field, start}
 use Rattle.run.specs.Written.{over}
-use Rattle.run.proofs.First.{first_same}
+use Rattle.run.proofs.Places.{Opposite, position_first}
 use Rattle.run.proofs.Chain.{or_else_next, unless_pass, number_0}
 use Rattle.run.proofs.Fields.{joined_length, field_is, field_joined, field_length, field_at}
 use Rattle.run.proofs.Lent.{part_width}
@@ -26,7 +27,7 @@ use Rattle.dpch.specs.Formats.{format_of, widths}
 use Rattle.dpch.specs.Compressed.{format_in, pilot_for, source_for}
 use Rattle.dpch.specs.Layouts.{downlink_dpch}
 use Rattle.dpch.proofs.Exact.{fields_fill, format_sizes, format_pilots, kind_sizes}
-use Rattle.slot.specs.Rule.{data_size, fields_of, slot_of, tfci_in, data_in, command_in, tfci_stands}
+use Rattle.slot.specs.Rule.{data_size, fields_of, slot_of, tfci_in, data_in, command_in, tfci_stands, is_mixed}
 use Rattle.slot.specs.Outcome.{digits_verdict, part_verdict}
 use Rattle.slot.specs.Ready.{Sound, Row, Whole}
 
@@ -244,23 +245,13 @@ tfci_small f s =
     let short = s.short in
     omega arith
 
--- the TFCI rule where the first digit is a bit, and where it is DTX
-module _ (tfci : List ℕ) where
-  unlike : (d : Bool) → not d ≡ beq d false
-  unlike true = refl
-  unlike false = refl
+-- the first TFCI digit of another kind than the first is the first place at which the TFCI rule fails
+pub mixed_opposite : (tfci : List ℕ) → Opposite (is_mixed (get_or tfci 0 0)) (tfci_stands tfci) 0 tfci
+unfolding tfci_stands
+mixed_opposite tfci k h = refl
 
-  pub tfci_bits : (n : ℕ) → (get_or tfci 0 0 ≡ dtx → ⊥) → first_bad (not_at dtx tfci) n ≡ first_bad (tfci_stands tfci) n
-  unfolding tfci_stands
-  tfci_bits n h = first_same _ _ n (λ k _. rw (ne_eqb (get_or tfci 0 0) dtx h) (unlike (eqb (get_or tfci k 0) dtx)))
-
-  alike : (d : Bool) → d ≡ beq d true
-  alike true = refl
-  alike false = refl
-
-  pub tfci_silent : (n : ℕ) → get_or tfci 0 0 ≡ dtx → first_bad (is_at dtx tfci) n ≡ first_bad (tfci_stands tfci) n
-  unfolding tfci_stands
-  tfci_silent n h = first_same _ _ n (λ k _. rw (eq-eqb (get_or tfci 0 0) dtx h) (alike (eqb (get_or tfci k 0) dtx)))
+pub mixed_first : (tfci : List ℕ) {r : Option ℕ} → r ≡ position (is_mixed (get_or tfci 0 0)) tfci → unwrap_or r (length tfci) ≡ first_bad (tfci_stands tfci) (length tfci)
+mixed_first tfci e = rw e (position_first (is_mixed (get_or tfci 0 0)) (tfci_stands tfci) 0 tfci (mixed_opposite tfci))
 
 -- a run that is a slot is checked digit by digit
 pub part_whole : (f : Format) (slot : ℕ) (xs : List ℕ) (base : ℕ) → length xs ≡ f.slot → part_verdict f slot xs base ≡ digits_verdict f slot xs base

@@ -3,3 +3,4 @@ pub mod Ends
 pub mod Accept
 pub mod Rows
 pub mod Exact
+pub mod Answers

@@ -1,10 +1,10 @@
 -- Demand 2 for a DPCH slot (docs/RULES.md, 'The demands' and 'DPCH slot'). Each statement is proved in proofs/Exact.antt under its name in small letters.
 -- Assumes nothing.
 use Rattle.std.specs.Prelude.{ℕ, ◌+◌, ◌<◌, ◌≤◌, ◌≡◌, List, ◌↔◌, length, get_or}
-use Rattle.run.specs.declared.Verdict.{Verdict}
+use Rattle.run.specs.Verdict.{Verdict}
 use Rattle.run.specs.Fields.{cut, joined}
 use Rattle.run.specs.Verdicts.{done, Narrow}
-use Rattle.dpch.specs.declared.Command.{Command}
+use Rattle.dpch.specs.Command.{Command}
 use Rattle.dpch.specs.declared.Format.{Format}
 use Rattle.dpch.specs.Formats.{format_of, widths}
 use Rattle.dpch.specs.Pilots.{pilot_of}

@@ -1,13 +1,13 @@
 -- docs/RULES.md, 'DPCH slot': what each call answers and leaves in each lent run, for all inputs.
 -- Assumes nothing.
 use Rattle.std.specs.Prelude.{ℕ, ◌+◌, ◌≡◌, Bool, cond, ◌&&◌, List, [], ◌∷◌, length, eqb, leb, ltb}
-use Rattle.run.specs.declared.Verdict.{Verdict}
+use Rattle.run.specs.Verdict.{Verdict}
 use Rattle.run.specs.First.{at_most, like_first, agree}
 use Rattle.run.specs.Fields.{start}
 use Rattle.run.specs.Refusals.{length_refused, digit_refused, tpc_refused, tfci_refused, pilot_refused}
 use Rattle.run.specs.Verdicts.{or_else, unless, each, leaves}
 use Rattle.dpch.specs.declared.Format.{Format}
-use Rattle.dpch.specs.declared.Command.{Command}
+use Rattle.dpch.specs.Command.{Command}
 use Rattle.dpch.specs.Formats.{format_of, widths}
 use Rattle.dpch.specs.Heads.{slot_head}
 use Rattle.dpch.specs.Compressed.{pilot_for}

@@ -1,6 +1,6 @@
 -- docs/RULES.md, 'DPCH slot'; TS 25.211, 5.3.2: one slot of the downlink DPCH.
 -- Assumes nothing.
-use Rattle.std.specs.Prelude.{ℕ, ◌+◌, Bool, List, [], ◌∷◌, ◌++◌, get_or, take, drop, replicate, eqb}
+use Rattle.std.specs.Prelude.{ℕ, ◌+◌, Bool, not, List, [], ◌∷◌, ◌++◌, get_or, take, drop, replicate, eqb}
 use Rattle.std.specs.Bool.{beq}
 use Rattle.run.specs.Digits.{dtx}
 use Rattle.run.specs.Fields.{joined, field}
@@ -41,3 +41,7 @@ command_in f xs = get_or (tpc_in f xs) 0 0
 -- the digits of a TFCI field are all bits or all DTX; at digit k: it is of the kind (DTX or not) of the first TFCI digit
 unfoldable pub tfci_stands : List ℕ → ℕ → Bool
 tfci_stands tfci k = beq (eqb (get_or tfci k 0) dtx) (eqb (get_or tfci 0 0) dtx)
+
+-- a digit is of another kind than the first
+abbrev pub is_mixed : ℕ → ℕ → Bool
+is_mixed first digit = not (beq (eqb digit dtx) (eqb first dtx))

@@ -1,99 +1,82 @@
 // The fields of a slot: each is checked in its own stretch of the slot.
-ghost use Rattle.std.specs.Prelude.{◌≡◌, ◌+◌, ◌≤◌, min, leb, length};
-ghost use Rattle.run.specs.First.{first_bad, agree};
+ghost use Rattle.std.specs.List.{position, zip};
+ghost use Rattle.std.specs.Option.{unwrap_or};
+ghost use Rattle.std.specs.Prelude.{◌≡◌, ◌==◌, not, cond, ◌+◌, ◌≤◌, eqb, leb, length, take, drop};
+ghost use Rattle.run.specs.Answers.{number_of, verdict_of};
 ghost use Rattle.run.specs.Verdicts.{unless};
-ghost use Rattle.dpch.specs.Formats.{kind_b};
-ghost use Rattle.dpch.specs.Pilots.{pilot_source};
 ghost use Rattle.dpch.specs.Compressed.{source_for};
-ghost use Rattle.slot.specs.Outcome.{digits_verdict};
-ghost use Rattle.slot.specs.Ready.{Whole};
+ghost use Rattle.slot.specs.Outcome.{part_verdict};
+ghost use Rattle.slot.specs.Ready.{Sound};
 
 use dpch::{Format, KIND_B};
-use run::{Verdict, found, or_else, refusal};
+use run::{DTX, Reason, Refusal, refused_at, require};
 use slot_map::first_mixed;
 
-// The first place at which a pilot field differs from the slot's pilot.
-fn plain_differs(s: &[u8], slot: usize) -> usize
-    ensures { result ≡ first_bad (agree s.now (pilot_source (length s.now) slot)) (min (length s.now) (length (pilot_source (length s.now) slot))) }
+// The first place at which a pilot field differs from the row that it begins; one of the shortest is the row's second symbol.
+fn differs(s: &[u8], row: &[u8], shortest: usize) -> Option<usize>
+    requires { shortest + shortest ≤ length row.now }
+    ensures { result ≡ position (λ pair. not (pair.0 == pair.1)) (zip s.now (cond (eqb (length s.now) shortest) (take shortest (drop shortest row.now)) row.now)) }
 {
-    let row = dpch_pilot::pilot_row(0, slot);
-    if s.len() == 2 {
-        scan_diff::first_diff(s, &row[2..4])
+    if s.len() == shortest {
+        scan_diff::difference(s, &row[shortest..shortest + shortest])
     } else {
-        scan_diff::first_diff(s, &row)
+        scan_diff::difference(s, row)
     }
 }
 
-// .. of a format B, in which each pair of bits stands twice.
-fn doubled_differs(s: &[u8], slot: usize) -> usize
-    ensures { result ≡ first_bad (agree s.now (source_for kind_b (length s.now) slot)) (min (length s.now) (length (source_for kind_b (length s.now) slot))) }
-{
-    let row = dpch_rows::doubled_row(slot);
-    if s.len() == 4 {
-        scan_diff::first_diff(s, &row[4..8])
-    } else {
-        scan_diff::first_diff(s, &row)
-    }
-}
-
-// .. of a format's kind.
-fn pilot_differs(s: &[u8], kind: usize, slot: usize) -> usize
-    ensures { result ≡ first_bad (agree s.now (source_for kind (length s.now) slot)) (min (length s.now) (length (source_for kind (length s.now) slot))) }
+// .. from the slot's pilot, of a format's kind: in B each pair of bits stands twice.
+fn pilot_differs(s: &[u8], kind: usize, slot: usize) -> Option<usize>
+    ensures { result ≡ position (λ pair. not (pair.0 == pair.1)) (zip s.now (source_for kind (length s.now) slot)) }
 {
     if kind == KIND_B {
-        doubled_differs(s, slot)
+        differs(s, &dpch_rows::doubled_row(slot), 4)
     } else {
-        plain_differs(s, slot)
+        differs(s, &dpch_pilot::pilot_row(0, slot), 2)
     }
 }
 
-// Refused at place i of a field that begins at `start` of a slot that begins at `base`.
-fn placed(s: &[u8], i: usize, number: usize, base: u32, start: usize) -> Verdict
+// Refused at the place that was found of a field that begins at `start` of a slot that begins at `base`.
+fn placed(
+    s: &[u8],
+    found: Option<usize>,
+    reason: Reason,
+    base: u32,
+    start: usize,
+) -> Result<(), Refusal>
     requires { start ≤ 1280 }
-    ensures { result ≡ unless (leb (length s.now) i) number (base + start + i) }
+    ensures { verdict_of result ≡ unless (leb (length s.now) (unwrap_or found (length s.now))) (number_of reason) (base + start + unwrap_or found (length s.now)) }
 {
+    let i = found.unwrap_or(s.len());
     if s.len() <= i {
-        return Verdict {
-            number: 0,
-            place: 0,
-        };
+        return Ok(());
     }
-    Verdict {
-        number,
+    Err(Refusal {
+        reason,
         place: base as usize + start + i,
-    }
+    })
 }
 
-// The checks of a slot's digits, field by field.
-pub(crate) fn check(f: Format, slot: usize, xs: &[u8], base: u32) -> Verdict
-    requires { Whole f (length xs.now) }
-    ensures { result ≡ digits_verdict f slot xs.now base }
+// The checks of a run that may be a slot: its length, and its digits field by field.
+pub(crate) fn check(f: Format, slot: usize, xs: &[u8], base: u32) -> Result<(), Refusal>
+    requires { Sound f }
+    ensures { verdict_of result ≡ part_verdict f slot xs.now base }
 {
+    require(xs.len() == f.slot, Reason::Length, 0)?;
+    refused_at(xs, scan::above(xs, DTX), Reason::Digit, base)?;
     let a = f.data1;
     let b = a + f.tpc;
+    let tpc = &xs[a..b];
+    placed(tpc, scan_equal::unlike(tpc), Reason::Tpc, base, a)?;
     let c = b + f.tfci;
+    let tfci = &xs[b..c];
+    placed(tfci, first_mixed(tfci), Reason::Tfci, base, b)?;
     let d = c + f.data2;
-    let e = d + f.pilot;
-    let pilot = &xs[d..e];
-    let last = placed(
+    let pilot = &xs[d..d + f.pilot];
+    placed(
         pilot,
         pilot_differs(pilot, f.kind, slot),
-        refusal::PILOT,
+        Reason::Pilot,
         base,
         d,
-    );
-    let tfci = &xs[b..c];
-    let kinds = or_else(
-        placed(tfci, first_mixed(tfci), refusal::TFCI, base, b),
-        last,
-    );
-    let tpc = &xs[a..b];
-    let commands = or_else(
-        placed(tpc, scan_equal::first_unlike(tpc), refusal::TPC, base, a),
-        kinds,
-    );
-    or_else(
-        found(xs, scan::first_above(xs, 2), refusal::DIGIT, base),
-        commands,
     )
 }

@@ -1,18 +1,23 @@
 -- What a look at a field of constant width says of the field's check, and what the looks together say of the verdict.
 -- Assumes nothing.
 use mathlib.Core.Path.{◌≡◌, refl, sym, ap, ◌∙◌}
-use mathlib.Core.Bool.{Bool, true, false, cond, not, ◌&&◌, true≢false}
+use mathlib.Core.Bool.{Bool, true, false, not, ◌&&◌, true≢false}
 use mathlib.Core.List.{List}
 use Prim.Native.Nat.{ℕ, ◌+◌, ◌-◌, ◌<◌}
 use native.Mathlib.Nat.{not-suc-le-zero}
 use native.Mathlib.Omega.{arith}
 use borrow.Author.Tests.{eqb-true, eq-eqb, ne_eqb, le-leb, lt-leb}
-use lib.Dec.{eqb, leb, lit<}
+use lib.Dec.{eqb, leb, ltb, lit<}
 use lib.ListN.{length, get_or, take, drop}
-use Rattle.run.specs.First.{first_bad, all, is_at, like_first, agree}
+use Rattle.std.specs.Prelude.{Option, is_some}
+use Rattle.std.specs.Option.{unwrap_or}
+use Rattle.std.specs.declared.option.Option.TheVariants.{Some, None}
+use Rattle.std.specs.List.{position}
+use Rattle.run.specs.First.{first_bad, all, at_most, is_at, like_first, agree}
 use Rattle.run.specs.Verdicts.{done, each}
 use Rattle.run.specs.Fields.{joined, field, start}
 use Rattle.run.proofs.First.{first_is, first_same}
+use Rattle.run.proofs.Places.{above_first, found_below}
 use Rattle.run.proofs.Chain.{or_else_done, unless_done, or_else_pass, unless_pass, each_fits}
 use Rattle.run.proofs.Fields.{field_lent}
 use Rattle.dpch.specs.declared.Format.{Format}
@@ -25,6 +30,18 @@ use Rattle.slot.specs.Ready.{Whole}
 use Rattle.slot.proofs.Laws.{field_long}
 use Rattle.slot.proofs.Accept.{digits_ok, digits_pass}
 use Rattle.slot_fits.specs.Method.{PilotWidth}
+
+-- a scan that finds no digit above DTX
+pub none_above : (s : List ℕ) {found : Option ℕ} {r : Bool} → is_some found ≡ not r → found ≡ position (ltb 2) s → r ≡ all (length s) (at_most 2 s)
+none_above s {found} {r} told e = turned r told ∙ side found (above_first 2 s e) (λ i is. found_below (ltb 2) s i e is)
+  where
+    turned : (b : Bool) {a : Bool} → a ≡ not b → b ≡ not a
+    turned true h = rw h
+    turned false h = rw h
+
+    side : (o : Option ℕ) → unwrap_or o (length s) ≡ first_bad (at_most 2 s) (length s) → ((i : ℕ) → o ≡ Some i → i < length s) → not (is_some o) ≡ all (length s) (at_most 2 s)
+    side None p below = sym (le-leb _ _ (omega (arith, p)))
+    side (Some i) p below = let l = below i refl in sym (lt-leb _ _ (omega (arith, p)))
 
 -- a digit that is a bit v is not DTX
 bit : (d v : ℕ) → (v ≡ 2 → ⊥) → (b : Bool) → eqb d v ≡ b → b ≡ (not (eqb d 2) && b)

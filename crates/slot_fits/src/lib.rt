@@ -2,37 +2,28 @@
 // Nearly every slot is, so this is asked first; which digit is refused, and where, the crate `slot_check` finds.
 #![tactic(auto)]
 
-ghost use Rattle.std.specs.Prelude.{◌≡◌, ◌&&◌, ◌≤◌, eqb, length};
+ghost use Rattle.std.specs.Prelude.{◌≡◌, ◌≤◌, eqb, length};
 ghost use Rattle.run.specs.First.{all, at_most, is_at, like_first, agree};
 ghost use Rattle.dpch.specs.Formats.{normal, kind_b, format_of};
 ghost use Rattle.dpch.specs.Pilots.{pilot_of};
 ghost use Rattle.dpch.specs.Compressed.{format_in, pilot_for};
 ghost use Rattle.slot.specs.Outcome.{digits_verdict, part_verdict};
-ghost use Rattle.slot.specs.Ready.{Whole};
+ghost use Rattle.slot.specs.Ready.{Sound, Whole};
 ghost use Rattle.slot_fits.specs.Method.{PilotWidth};
 
 use dpch::{Format, KIND_B};
 use run::DTX;
 
-// Both hold. Neither is left out where the other fails: a jump costs more than a field.
-fn both(a: bool, b: bool) -> bool
-    ensures { result ≡ (a && b) }
-{
-    if a { b } else { false }
-}
-
-// Whether the first n digits are all `v`. Here and below n is a number where the function is called, so that a field is one comparison.
+// Whether the first n digits are all `v`. Here and below n is a number where the function is called, so that a field is one comparison; a loop with an early way out (`all`) would not be.
 fn all_are(s: &[u8], v: u8, n: usize) -> bool
     requires { n ≤ length s.now }
     ensures { result ≡ all n (is_at v s.now) }
 {
     let mut good = true;
-    let mut k = 0;
-    while k < n {
+    for k in 0..n {
         if s[k] != v {
             good = false;
         }
-        k += 1;
     }
     good
 }
@@ -43,12 +34,10 @@ fn all_agree(s: &[u8], t: &[u8], n: usize) -> bool
     ensures { result ≡ all n (agree s.now t.now) }
 {
     let mut good = true;
-    let mut k = 0;
-    while k < n {
+    for k in 0..n {
         if s[k] != t[k] {
             good = false;
         }
-        k += 1;
     }
     good
 }
@@ -89,7 +78,7 @@ fn is_plain(s: &[u8], slot: usize) -> bool
     }
 }
 
-// .. of a format B, in which each pair of bits stands twice.
+// .. of a format B, in which each pair of bits stands twice. It names its own widths: one function for both would be handed them, and they would be numbers no more.
 fn is_doubled(s: &[u8], slot: usize) -> bool
     requires { PilotWidth kind_b (length s.now) }
     ensures { result ≡ all (length s.now) (agree s.now (pilot_for kind_b (length s.now) slot)) }
@@ -123,11 +112,11 @@ fn are_digits(s: &[u8]) -> bool
     match s.len() {
         40 => scan::all_at_most(s, 2, 40),
         80 => scan::all_at_most(s, 2, 80),
-        _ => s.len() <= scan::first_above(s, 2),
+        _ => scan::above(s, 2).is_none(),
     }
 }
 
-// Each field in its own stretch, and all digits together.
+// Each field in its own stretch, and all digits together. None is left out where another fails: a jump costs more than a field.
 fn fields_fit(f: Format, slot: usize, xs: &[u8]) -> bool
     requires { Whole f (length xs.now) × PilotWidth f.kind f.pilot }
     ensures { result ≡ eqb (digits_verdict f slot xs.now 0).number 0 }
@@ -137,30 +126,31 @@ fn fields_fit(f: Format, slot: usize, xs: &[u8]) -> bool
     let c = b + f.tfci;
     let d = c + f.data2;
     let e = d + f.pilot;
-    let last = is_pilot(&xs[d..e], f.kind, slot);
-    let kinds = both(slot_tfci::is_tfci(&xs[b..c]), last);
-    let commands = both(is_command(&xs[a..b]), kinds);
-    both(are_digits(xs), commands)
+    let last = slot_tfci::is_tfci(&xs[b..c]) & is_pilot(&xs[d..e], f.kind, slot);
+    are_digits(xs) & (is_command(&xs[a..b]) & last)
+}
+
+// Whether the run has the row's length, and no check of its digits refuses it.
+fn is_slot(f: Format, slot: usize, xs: &[u8]) -> bool
+    requires { Sound f × PilotWidth f.kind f.pilot }
+    ensures { result ≡ eqb (part_verdict f slot xs.now 0).number 0 }
+{
+    if xs.len() != f.slot {
+        return false;
+    }
+    fields_fit(f, slot, xs)
 }
 
 // Whether the run is a slot of the format and no check of its digits refuses it.
 pub fn fits(format: usize, slot: usize, xs: &[u8]) -> bool
     ensures { result ≡ eqb (part_verdict (format_of format) slot xs.now 0).number 0 }
 {
-    let f = dpch::format_of(format);
-    if xs.len() != f.slot {
-        return false;
-    }
-    fields_fit(f, slot, xs)
+    is_slot(dpch::format_of(format), slot, xs)
 }
 
 // .. of a row of any kind.
 pub fn row_fits(kind: usize, format: usize, slot: usize, xs: &[u8]) -> bool
     ensures { result ≡ eqb (part_verdict (format_in kind format) slot xs.now 0).number 0 }
 {
-    let f = dpch_rows::format_in(kind, format);
-    if xs.len() != f.slot {
-        return false;
-    }
-    fields_fit(f, slot, xs)
+    is_slot(dpch_rows::format_in(kind, format), slot, xs)
 }

@@ -2,10 +2,11 @@
 #![tactic(auto)]
 
 ghost use Rattle.std.specs.Prelude.{◌≡◌};
+ghost use Rattle.run.specs.Answers.{verdict_of};
 ghost use Rattle.slot.specs.Outcome.{map_head, read_head};
 
-use dpch::slot_head;
-use run::Verdict;
+use dpch::check_slot_head;
+use run::Refusal;
 use slot::sizes_of;
 
 // The checks of numbers and lengths before a slot is mapped.
@@ -15,17 +16,19 @@ pub fn map_head(
     data_length: usize,
     tfci_length: usize,
     out_length: usize,
-) -> Verdict
-    ensures { result ≡ map_head format slot data_length tfci_length out_length }
+) -> Result<(), Refusal>
+    ensures { verdict_of result ≡ map_head format slot data_length tfci_length out_length }
 {
     let s = sizes_of(format);
-    slot_head(
+    check_slot_head(
         16,
         format,
         slot,
-        data_length == s.data,
-        tfci_length == s.tfci,
-        out_length == s.slot,
+        &[
+            data_length == s.data,
+            tfci_length == s.tfci,
+            out_length == s.slot,
+        ],
     )
 }
 
@@ -36,16 +39,18 @@ pub fn read_head(
     slot_length: usize,
     data_length: usize,
     tfci_length: usize,
-) -> Verdict
-    ensures { result ≡ read_head format slot slot_length data_length tfci_length }
+) -> Result<(), Refusal>
+    ensures { verdict_of result ≡ read_head format slot slot_length data_length tfci_length }
 {
     let s = sizes_of(format);
-    slot_head(
+    check_slot_head(
         16,
         format,
         slot,
-        slot_length == s.slot,
-        data_length == s.data,
-        tfci_length == s.tfci,
+        &[
+            slot_length == s.slot,
+            data_length == s.data,
+            tfci_length == s.tfci,
+        ],
     )
 }

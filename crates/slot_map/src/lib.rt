@@ -2,68 +2,55 @@
 // docs/RULES.md, 'DPCH slot'; TS 25.211, 5.3.2.
 #![tactic(auto)]
 
-ghost use Rattle.std.specs.Prelude.{◌≡◌, length};
-ghost use Rattle.run.specs.First.{first_bad};
-ghost use Rattle.slot.specs.Rule.{tfci_stands};
+ghost use Rattle.std.specs.List.{position};
+ghost use Rattle.std.specs.Prelude.{◌≡◌, get_or};
+ghost use Rattle.run.specs.Answers.{verdict_of};
+ghost use Rattle.slot.specs.Rule.{is_mixed};
 ghost use Rattle.slot.specs.Outcome.{fields_verdict, map_verdict, Map};
 
-use run::{DTX, Verdict, found, or_else, refusal, unless};
+use run::{DTX, Reason, Refusal, refused_at, require};
 
 // The first TFCI digit whose kind, DTX or not, is not the first one's. It is looked for where there is one.
-pub fn first_mixed(s: &[u8]) -> usize
-    ensures { result ≡ first_bad (tfci_stands s.now) (length s.now) }
+pub fn first_mixed(s: &[u8]) -> Option<usize>
+    ensures { result ≡ position (is_mixed (get_or s.now 0 0)) s.now }
 {
     if slot_tfci::is_tfci(s) {
-        return s.len();
+        return None;
     }
-    if s.len() == 0 {
-        return 0;
-    }
-    let first = s[0];
-    if first != DTX {
-        return scan_equal::first_equal(s, DTX);
-    }
-    scan_equal::first_other(s, DTX)
+    let silent = *s.first()? == DTX;
+    s.iter().position(|digit| (*digit == DTX) != silent)
 }
 
 // The checks of command, TFCI and data; each counts its places from where it stands in its run.
-pub fn fields_verdict(
+pub fn check_fields(
     tpc: usize,
     data: &[u8],
     tfci: &[u8],
     tpc_place: usize,
     tfci_base: u32,
     data_base: u32,
-) -> Verdict
-    ensures { result ≡ fields_verdict tpc «data».now tfci.now tpc_place tfci_base data_base }
+) -> Result<(), Refusal>
+    ensures { verdict_of result ≡ fields_verdict tpc «data».now tfci.now tpc_place tfci_base data_base }
 {
-    let last = found(data, scan::first_above(data, 2), refusal::DIGIT, data_base);
-    let kinds = or_else(
-        found(tfci, first_mixed(tfci), refusal::TFCI, tfci_base),
-        last,
-    );
-    let digits = or_else(
-        found(tfci, scan::first_above(tfci, 2), refusal::DIGIT, tfci_base),
-        kinds,
-    );
-    or_else(unless(tpc <= 1, refusal::TPC, tpc_place), digits)
+    require(tpc <= 1, Reason::Tpc, tpc_place)?;
+    refused_at(tfci, scan::above(tfci, DTX), Reason::Digit, tfci_base)?;
+    refused_at(tfci, first_mixed(tfci), Reason::Tfci, tfci_base)?;
+    refused_at(data, scan::above(data, DTX), Reason::Digit, data_base)
 }
 
-fn map_verdict(
+// The checks in their order.
+fn check(
     format: usize,
     slot: usize,
     tpc: usize,
     data: &[u8],
     tfci: &[u8],
     out_length: usize,
-) -> Verdict
-    ensures { result ≡ map_verdict format slot tpc «data».now tfci.now out_length }
+) -> Result<(), Refusal>
+    ensures { verdict_of result ≡ map_verdict format slot tpc «data».now tfci.now out_length }
 {
-    let head = slot_heads::map_head(format, slot, data.len(), tfci.len(), out_length);
-    if head.number != 0 {
-        return head;
-    }
-    fields_verdict(tpc, data, tfci, 0, 0, 0)
+    slot_heads::map_head(format, slot, data.len(), tfci.len(), out_length)?;
+    check_fields(tpc, data, tfci, 0, 0, 0)
 }
 
 // The slot of the fields, or the refusal and `out` as it was.
@@ -74,13 +61,9 @@ pub fn map(
     data: &[u8],
     tfci: &[u8],
     out: &mut [u8],
-) -> Verdict
-    ensures { Map format slot tpc «data».now tfci.now out.old result out.new }
+) -> Result<(), Refusal>
+    ensures { Map format slot tpc «data».now tfci.now out.old (verdict_of result) out.new }
 {
-    let verdict = map_verdict(format, slot, tpc, data, tfci, out.len());
-    if verdict.number != 0 {
-        return verdict;
-    }
-    slot_put::put(format, slot, tpc as u8, data, tfci, out);
-    verdict
+    check(format, slot, tpc, data, tfci, out.len())?;
+    slot_put::put(format, slot, tpc as u8, data, tfci, out)
 }

@@ -15,11 +15,7 @@ fn copy_n(dst: &mut [u8], src: &[u8], n: usize)
     requires { (length dst.old ≡ n) × (n ≤ length src.now) }
     ensures { dst.new ≡ over src.now dst.old }
 {
-    let mut i = 0;
-    while i < n {
-        dst[i] = src[i];
-        i += 1;
-    }
+    dst.copy_from_slice(&src[..n]);
 }
 
 // The pilot of a slot, as long as the field. A row that is lent with no known end has to stand in memory, so the fields of other widths have a row of their own.
@@ -39,7 +35,7 @@ fn write_plain(dst: &mut [u8], slot: usize)
     }
 }
 
-// .. of a format B, in which each pair of bits stands twice.
+// .. of a format B, in which each pair of bits stands twice. It names its own widths: one function for both would be handed them, and they would be numbers no more.
 fn write_doubled(dst: &mut [u8], slot: usize)
     ensures { dst.new ≡ over (source_for kind_b (length dst.old) slot) dst.old }
 {

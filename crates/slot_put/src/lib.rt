@@ -2,13 +2,14 @@
 #![tactic(auto)]
 
 ghost use Rattle.std.specs.Prelude.{◌≡◌, length};
+ghost use Rattle.run.specs.Answers.{verdict_of};
 ghost use Rattle.slot.specs.Rule.{slot_of};
 ghost use Rattle.slot.specs.Ready.{Ready};
 ghost use Rattle.dpch.specs.Compressed.{format_in};
 ghost use Rattle.slot.specs.Outcome.{Put, PutRow};
 
 use dpch::Format;
-use run::Verdict;
+use run::Refusal;
 use slot_pilot::write_pilot;
 use write::{copy, fill};
 
@@ -30,16 +31,19 @@ fn write(f: Format, slot: usize, tpc: u8, data: &[u8], tfci: &[u8], out: &mut [u
 }
 
 // The slot of the fields with no look at their digits, or the refusal and `out` as it was.
-pub fn put(format: usize, slot: usize, tpc: u8, data: &[u8], tfci: &[u8], out: &mut [u8]) -> Verdict
-    ensures { Put format slot tpc «data».now tfci.now out.old result out.new }
+pub fn put(
+    format: usize,
+    slot: usize,
+    tpc: u8,
+    data: &[u8],
+    tfci: &[u8],
+    out: &mut [u8],
+) -> Result<(), Refusal>
+    ensures { Put format slot tpc «data».now tfci.now out.old (verdict_of result) out.new }
 {
-    let head = slot_heads::map_head(format, slot, data.len(), tfci.len(), out.len());
-    if head.number != 0 {
-        return head;
-    }
-    let f = dpch::format_of(format);
-    write(f, slot, tpc, data, tfci, out);
-    head
+    slot_heads::map_head(format, slot, data.len(), tfci.len(), out.len())?;
+    write(dpch::format_of(format), slot, tpc, data, tfci, out);
+    Ok(())
 }
 
 // .. of a row of a compressed format, where the runs have its lengths.

@@ -2,57 +2,42 @@
 // the crate `slot`: docs/RULES.md, 'DPCH slot'; TS 25.211, 5.3.2.
 #![tactic(auto)]
 
-ghost use Rattle.std.specs.Prelude.{◌≡◌, ◌≤◌, length};
-ghost use Rattle.dpch.specs.Formats.{format_of};
+ghost use Rattle.std.specs.Prelude.{◌≡◌};
+ghost use Rattle.run.specs.Answers.{verdict_of};
+ghost use Rattle.dpch.specs.Command.{command_of};
 ghost use Rattle.dpch.specs.Compressed.{format_in};
-ghost use Rattle.slot.specs.Rule.{tfci_in, data_in, command_in};
-ghost use Rattle.slot.specs.Ready.{Ready};
 ghost use Rattle.slot.specs.Outcome.{read_verdict, Read, Take, TakeRow};
 
-use dpch::Command;
-use run::Verdict;
+use run::Refusal;
 
 mod fields;
 
-fn read_verdict(
+// The checks in their order.
+fn check(
     format: usize,
     slot: usize,
     xs: &[u8],
     data_length: usize,
     tfci_length: usize,
-) -> Verdict
-    ensures { result ≡ read_verdict format slot xs.now data_length tfci_length }
+) -> Result<(), Refusal>
+    ensures { verdict_of result ≡ read_verdict format slot xs.now data_length tfci_length }
 {
-    let head = slot_heads::read_head(format, slot, xs.len(), data_length, tfci_length);
-    if head.number != 0 {
-        return head;
-    }
-    slot_check::part_verdict(format, slot, xs, 0)
-}
-
-// The fields of a slot of a normal format whose runs have their lengths, and its command.
-fn taken(format: usize, xs: &[u8], data: &mut [u8], tfci: &mut [u8]) -> usize
-    requires { (format ≤ 16) × Ready (format_of format) (length «data».old) (length tfci.old) (length xs.now) }
-    ensures { (result ≡ command_in (format_of format) xs.now) × («data».new ≡ data_in (format_of format) xs.now) × (tfci.new ≡ tfci_in (format_of format) xs.now) }
-{
-    let f = dpch::format_of(format);
-    fields::take(f, xs, data, tfci);
-    fields::command(f, xs)
+    slot_heads::read_head(format, slot, xs.len(), data_length, tfci_length)?;
+    slot_check::check_part(format, slot, xs, 0)
 }
 
 // The fields of a slot with no look at their digits, or the refusal and the runs as they were.
-pub fn take(format: usize, slot: usize, xs: &[u8], data: &mut [u8], tfci: &mut [u8]) -> Command
-    ensures { Take format slot xs.now «data».old tfci.old result «data».new tfci.new }
+pub fn take(
+    format: usize,
+    slot: usize,
+    xs: &[u8],
+    data: &mut [u8],
+    tfci: &mut [u8],
+) -> Result<usize, Refusal>
+    ensures { Take format slot xs.now «data».old tfci.old (command_of result) «data».new tfci.new }
 {
-    let head = slot_heads::read_head(format, slot, xs.len(), data.len(), tfci.len());
-    if head.number != 0 {
-        return Command {
-            verdict: head,
-            tpc: 0,
-        };
-    }
-    let tpc = taken(format, xs, data, tfci);
-    Command { verdict: head, tpc }
+    slot_heads::read_head(format, slot, xs.len(), data.len(), tfci.len())?;
+    Ok(fields::take(dpch::format_of(format), xs, data, tfci))
 }
 
 // .. of a slot of a compressed format's row, where the runs have its lengths; else nothing is taken and the command is 0.
@@ -61,26 +46,22 @@ pub fn take_row(kind: usize, format: usize, xs: &[u8], data: &mut [u8], tfci: &m
 {
     let f = dpch_rows::format_in(kind, format);
     if slot::sizes_are(f, data.len(), tfci.len(), xs.len()) {
-        fields::take(f, xs, data, tfci);
-        return fields::command(f, xs);
+        fields::take(f, xs, data, tfci)
+    } else {
+        0
     }
-    0
 }
 
 // The fields of a slot, or the refusal and the runs as they were.
-pub fn read(format: usize, slot: usize, xs: &[u8], data: &mut [u8], tfci: &mut [u8]) -> Command
-    ensures { Read format slot xs.now «data».old tfci.old result «data».new tfci.new }
+pub fn read(
+    format: usize,
+    slot: usize,
+    xs: &[u8],
+    data: &mut [u8],
+    tfci: &mut [u8],
+) -> Result<usize, Refusal>
+    ensures { Read format slot xs.now «data».old tfci.old (command_of result) «data».new tfci.new }
 {
-    let checked = read_verdict(format, slot, xs, data.len(), tfci.len());
-    if checked.number != 0 {
-        return Command {
-            verdict: checked,
-            tpc: 0,
-        };
-    }
-    let tpc = taken(format, xs, data, tfci);
-    Command {
-        verdict: checked,
-        tpc,
-    }
+    check(format, slot, xs, data.len(), tfci.len())?;
+    Ok(fields::take(dpch::format_of(format), xs, data, tfci))
 }

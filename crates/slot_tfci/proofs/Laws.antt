@@ -16,14 +16,14 @@ use Rattle.slot_tfci.specs.Method.{kind_at}
 pub none_to_ask : (n : ℕ) (ok : ℕ → Bool) → n ≡ 0 → true ≡ all n ok
 none_to_ask n ok e = sym (le-leb n _ (omega arith))
 
--- DTX or not, as asked
-pub kind_silent : (b : Bool) → b ≡ beq true b
-kind_silent true = refl
-kind_silent false = refl
+-- a test that is asked by its opposite
+pub fails : (b : Bool) → not b ≡ true → b ≡ false
+fails true e = sym e
+fails false e = refl
 
-pub kind_bit : (b : Bool) → not b ≡ beq false b
-kind_bit true = refl
-kind_bit false = refl
+pub holds : (b : Bool) → not b ≡ false → b ≡ true
+holds true e = refl
+holds false e = sym e
 
 -- a TFCI field of n digits, each of the first one's kind
 pub tfci_told : (s : List ℕ) (n : ℕ) {r : Bool} → length s ≡ n → r ≡ all n (kind_at (eqb (get_or s 0 0) 2) s) → r ≡ all (length s) (tfci_stands s)

@@ -1,33 +1,23 @@
 // Whether the TFCI field of a slot of the downlink DPCH is all bits or all DTX (rule, promises and theorems are those of the crate `slot`): docs/RULES.md, 'DPCH slot'; TS 25.211, 5.3.2.
 #![tactic(auto)]
 
-ghost use Rattle.std.specs.Prelude.{◌≡◌, ◌≤◌, eqb, length};
-ghost use Rattle.std.specs.Bool.{beq};
+ghost use Rattle.std.specs.Prelude.{◌≡◌, ◌≤◌, length};
 ghost use Rattle.run.specs.First.{all};
 ghost use Rattle.slot.specs.Rule.{tfci_stands};
 ghost use Rattle.slot_tfci.specs.Method.{kind_at};
 
 use run::DTX;
 
-// DTX or not, as asked.
-fn is_kind(digit: u8, silent: bool) -> bool
-    ensures { result ≡ beq (eqb digit 2) silent }
-{
-    if digit == DTX { silent } else { !silent }
-}
-
-// Whether the first n digits are all of a kind. Here n is a number where the function is called, so that a field is one comparison.
+// Whether the first n digits are all DTX, or none of them, as asked. Here n is a number where the function is called, so that a field is one comparison; a loop with an early way out (`all`) would not be.
 fn all_of_kind(s: &[u8], silent: bool, n: usize) -> bool
     requires { n ≤ length s.now }
     ensures { result ≡ all n (kind_at silent s.now) }
 {
     let mut good = true;
-    let mut k = 0;
-    while k < n {
-        if !is_kind(s[k], silent) {
+    for k in 0..n {
+        if (s[k] == DTX) != silent {
             good = false;
         }
-        k += 1;
     }
     good
 }

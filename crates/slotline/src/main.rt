@@ -9,10 +9,9 @@ ghost use Rattle.run.specs.Written.{over};
 ghost use Rattle.slotline.specs.Input.{Spends, Within};
 ghost use Rattle.slotline.specs.Sound.{Buffer, Sound, Kept, Turned};
 
-use run::{Verdict, shorter};
+use run::Refusal;
 use std::io;
 use std::io::Read;
-use write::copy;
 
 // One byte more than a file may have: it is read to see whether it is there, and none behind it.
 const MOST: usize = 1048577;
@@ -41,14 +40,11 @@ struct Stand {
 
 // What is left of the window goes to its front; answers how many bytes that are.
 fn keep(window: &mut [u8], at: usize, filled: usize) -> usize
-    requires { («at» ≤ filled) × (filled ≤ length window.old) × (filled - «at» ≤ 1284) }
+    requires { («at» ≤ filled) × (filled ≤ length window.old) }
     ensures { (result ≡ filled - «at») × (window.new ≡ over (take (filled - «at») (drop «at» window.old)) window.old) }
 {
-    let mut rest = [0u8; RECORD];
-    let n = filled - at;
-    copy(&mut rest, &window[at..filled]);
-    copy(window, &rest[0..n]);
-    n
+    window.copy_within(at..filled, 0);
+    filled - at
 }
 
 // How many bytes may still be read: none where a read gave fewer than there was room for, since there the file ends.
@@ -79,12 +75,12 @@ fn read_full<R: Read>(input: &mut R, buffer: &mut [u8]) -> io::Result<usize>
 
 // The window is moved on to the next record and filled again.
 fn fill<R: Read>(input: &mut R, window: &mut [u8], s: Stand) -> io::Result<Stand>
-    requires { Sound s × Buffer window.old × (s.filled - s.at ≤ 1284) }
+    requires { Sound s × Buffer window.old }
     ensures ok { IfOk result (λ r. Kept s r) }
     ensures limit { Within (R.remaining input.old) (R.remaining input.new) s.unread result }
 {
     let kept = keep(window, s.at, s.filled);
-    let room = shorter(window.len() - kept, s.unread);
+    let room = s.unread.min(window.len() - kept);
     let end = kept + room;
     let got = read_full(input, &mut window[kept..end])?;
     let unread = unread_after(s.unread, room, got);
@@ -93,9 +89,7 @@ fn fill<R: Read>(input: &mut R, window: &mut [u8], s: Stand) -> io::Result<Stand
         at: 0,
         filled: kept + got,
         unread,
-        waiting: s.waiting,
-        left: s.left,
-        good: s.good,
+        ..s
     })
 }
 
@@ -105,10 +99,7 @@ fn ready<R: Read>(input: &mut R, window: &mut [u8], s: Stand) -> io::Result<Stan
     ensures ok { IfOk result (λ r. Kept s r) }
     ensures limit { Within (R.remaining input.old) (R.remaining input.new) s.unread result }
 {
-    if s.unread == 0 {
-        return Ok(s);
-    }
-    if s.filled - s.at >= RECORD {
+    if s.unread == 0 || s.filled - s.at >= RECORD {
         return Ok(s);
     }
     fill(input, window, s)
@@ -125,34 +116,23 @@ fn room(rt: &impl Print, out: &[u8], s: Stand) -> io::Result<Stand>
         return Ok(s);
     }
     rt.write_all(&out[0..waiting])?;
-    Ok(Stand {
-        before: s.before,
-        at: s.at,
-        filled: s.filled,
-        unread: s.unread,
-        waiting: 0,
-        left: s.left,
-        good: s.good,
-    })
+    Ok(Stand { waiting: 0, ..s })
 }
 
 // The refusal's line, and the end of the run.
-fn refuse(out: &mut [u8], refused: Verdict, s: Stand) -> Stand
+fn refuse(out: &mut [u8], refused: Refusal, s: Stand) -> Stand
     requires { Sound s × Buffer out.old }
     ensures ended { Sound result × (result.left ≡ 0) }
     ensures unread { result.unread ≡ s.unread }
 {
     let waiting = s.waiting;
-    let end = out.len();
-    let told = lines::tell(refused, &mut out[waiting..end]);
+    let told = lines::tell(refused.reason.number(), refused.place, &mut out[waiting..]);
+    let length = told.unwrap_or(0);
     Stand {
-        before: s.before,
-        at: s.at,
-        filled: s.filled,
-        unread: s.unread,
-        waiting: waiting + told.length,
+        waiting: waiting + length,
         left: 0,
         good: false,
+        ..s
     }
 }
 
@@ -165,25 +145,15 @@ fn step(window: &[u8], limit: u32, out: &mut [u8], s: Stand) -> Stand
     let at = s.at;
     let filled = s.filled;
     let waiting = s.waiting;
-    let end = out.len();
-    let ran = job_run::run(
-        &window[at..filled],
-        (s.before + at) as u32,
-        limit,
-        &mut out[waiting..end],
-    );
-    let verdict = ran.verdict;
-    if verdict.number != 0 {
-        return refuse(out, verdict, s);
-    }
-    Stand {
-        before: s.before,
-        at: at + ran.size,
-        filled,
-        unread: s.unread,
-        waiting: waiting + ran.length,
-        left: s.left - 1,
-        good: s.good,
+    let offset = (s.before + at) as u32;
+    match job_run::run(&window[at..filled], offset, limit, &mut out[waiting..]) {
+        Ok(ran) => Stand {
+            at: at + ran.size,
+            waiting: waiting + ran.length,
+            left: s.left - 1,
+            ..s
+        },
+        Err(refused) => refuse(out, refused, s),
     }
 }
 
@@ -204,7 +174,7 @@ fn turn<R: Read>(
     Ok(step(window, limit, out, free))
 }
 
-// The lines of the records, up to the first refusal.
+// The lines of the records, up to the first refusal, which leaves none: that is no range to count through.
 fn records<R: Read>(
     input: &mut R,
     rt: &impl Print,
@@ -237,18 +207,17 @@ fn finish<R: Read>(
     ensures ok { IfOk result (λ r. Sound r) }
     ensures limit { Within (R.remaining input.old) (R.remaining input.new) s.unread result }
 {
-    if s.good {
-        let last = ready(input, window, s)?;
-        let free = room(rt, out, last)?;
-        let at = free.at;
-        let filled = free.filled;
-        let verdict = job_check::end(&window[at..filled], (free.before + at) as u32, limit);
-        if verdict.number != 0 {
-            return Ok(refuse(out, verdict, free));
-        }
-        return Ok(free);
+    if !s.good {
+        return Ok(s);
     }
-    Ok(s)
+    let last = ready(input, window, s)?;
+    let free = room(rt, out, last)?;
+    let at = free.at;
+    let filled = free.filled;
+    match job_check::end(&window[at..filled], (free.before + at) as u32, limit) {
+        Ok(()) => Ok(free),
+        Err(refused) => Ok(refuse(out, refused, free)),
+    }
 }
 
 // The lines of the file whose first bytes are in the window.
@@ -263,23 +232,28 @@ fn print<R: Read>(
     ensures ok { IfOk result (λ r. Sound r) }
     ensures limit { Within (R.remaining input.old) (R.remaining input.new) (1048577 - filled) result }
 {
-    let opened = job_open::open(&window[0..filled], out);
-    let unread = unread_after(MOST, window.len(), filled);
-    let first = Stand {
+    let begun = Stand {
         before: 0,
-        at: opened.next,
+        at: 0,
         filled,
-        unread,
-        waiting: opened.length,
-        left: opened.count,
+        unread: unread_after(MOST, window.len(), filled),
+        waiting: 0,
+        left: 0,
         good: true,
     };
-    let verdict = opened.verdict;
-    if verdict.number != 0 {
-        return Ok(refuse(out, verdict, first));
+    match job_open::open(&window[0..filled], out) {
+        Ok(opened) => {
+            let first = Stand {
+                at: opened.next,
+                waiting: opened.length,
+                left: opened.count,
+                ..begun
+            };
+            let last = records(input, rt, window, opened.limit, out, first)?;
+            finish(input, rt, window, opened.limit, out, last)
+        }
+        Err(refused) => Ok(refuse(out, refused, begun)),
     }
-    let last = records(input, rt, window, opened.limit, out, first)?;
-    finish(input, rt, window, opened.limit, out, last)
 }
 
 fn main(rt: HostRuntime) -> io::Result<()> {

@@ -3,20 +3,20 @@
 
 ghost use Rattle.slt_aich.specs.Outcome.{AichMap, AichRead, AichMapAvailable, AichReadAvailable};
 
-use packed::pack;
+use packed::done;
 
 #[unsafe(no_mangle)]
 pub extern "C" fn slt_aich_map(indicators: &[i32], values: &mut [i32]) -> u64
     ensures { AichMap indicators.now values.old result values.new }
 {
-    pack(aich::map(indicators, values), 0)
+    done(aich::map(indicators, values))
 }
 
 #[unsafe(no_mangle)]
 pub extern "C" fn slt_aich_read(values: &[i32], indicators: &mut [i32]) -> u64
     ensures { AichRead values.now indicators.old result indicators.new }
 {
-    pack(aich::read(values, indicators), 0)
+    done(aich::read(values, indicators))
 }
 
 #[unsafe(no_mangle)]
@@ -27,7 +27,7 @@ pub extern "C" fn slt_aich_map_available(
 ) -> u64
     ensures { AichMapAvailable available indicators.now values.old result values.new }
 {
-    pack(aich::map_available(available, indicators, values), 0)
+    done(aich::map_available(available, indicators, values))
 }
 
 #[unsafe(no_mangle)]
@@ -38,5 +38,5 @@ pub extern "C" fn slt_aich_read_available(
 ) -> u64
     ensures { AichReadAvailable available values.now indicators.old result indicators.new }
 {
-    pack(aich::read_available(available, values, indicators), 0)
+    done(aich::read_available(available, values, indicators))
 }

@@ -3,8 +3,6 @@
 
 ghost use Rattle.slt_antenna.specs.Outcome.{SlotMapAntenna, SlotReadAntennas};
 
-use packed::pack;
-
 #[unsafe(no_mangle)]
 pub extern "C" fn slt_slot_map_antenna(
     format: usize,
@@ -17,10 +15,7 @@ pub extern "C" fn slt_slot_map_antenna(
 ) -> u64
     ensures { SlotMapAntenna format slot antenna tpc «data».now tfci.now out.old result out.new }
 {
-    pack(
-        antenna_map::map(format, slot, antenna, tpc, data, tfci, out),
-        0,
-    )
+    packed::done(antenna_map::map(format, slot, antenna, tpc, data, tfci, out))
 }
 
 #[unsafe(no_mangle)]
@@ -34,7 +29,5 @@ pub extern "C" fn slt_slot_read_antennas(
 ) -> u64
     ensures { SlotReadAntennas format slot first.now second.now «data».old tfci.old result «data».new tfci.new }
 {
-    let command = antenna_read::read(format, slot, first, second, data, tfci);
-    let verdict = command.verdict;
-    pack(verdict, command.tpc)
+    packed::answer(antenna_read::read(format, slot, first, second, data, tfci))
 }

@@ -4,7 +4,8 @@
 ghost use Rattle.correlator.specs.Complexes.{cx};
 ghost use Rattle.slt_combiner.specs.Outcome.{AichCombine};
 
-use packed::pack;
+use correlator::Complex;
+use packed::done;
 
 #[unsafe(no_mangle)]
 pub extern "C" fn slt_aich_combine(
@@ -17,8 +18,13 @@ pub extern "C" fn slt_aich_combine(
 ) -> u64
     ensures { AichCombine (cx h1_re h1_im) (cx h2_re h2_im) received.now results.old result results.new }
 {
-    pack(
-        combiner::combine(h1_re, h1_im, h2_re, h2_im, received, results),
-        0,
-    )
+    let h1 = Complex {
+        re: h1_re,
+        im: h1_im,
+    };
+    let h2 = Complex {
+        re: h2_re,
+        im: h2_im,
+    };
+    done(combiner::combine(h1, h2, received, results))
 }

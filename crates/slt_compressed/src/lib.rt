@@ -3,7 +3,7 @@
 
 ghost use Rattle.slt_compressed.specs.Outcome.{CompressedMap, CompressedRead};
 
-use packed::pack;
+use packed::done;
 
 #[unsafe(no_mangle)]
 pub extern "C" fn slt_compressed_map(
@@ -18,8 +18,7 @@ pub extern "C" fn slt_compressed_map(
 ) -> u64
     ensures { CompressedMap format kind first missing «data».now tfci.now out.old commands.now result out.new }
 {
-    let verdict = compressed_map::map(format, kind, first, missing, data, tfci, out, commands);
-    pack(verdict, 0)
+    done(compressed_map::map(format, kind, first, missing, data, tfci, out, commands))
 }
 
 #[unsafe(no_mangle)]
@@ -35,6 +34,5 @@ pub extern "C" fn slt_compressed_read(
 ) -> u64
     ensures { CompressedRead format kind first missing frame.now «data».old tfci.old commands.old result «data».new tfci.new commands.new }
 {
-    let verdict = compressed_read::read(format, kind, first, missing, frame, data, tfci, commands);
-    pack(verdict, 0)
+    done(compressed_read::read(format, kind, first, missing, frame, data, tfci, commands))
 }

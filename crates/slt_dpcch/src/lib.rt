@@ -4,7 +4,7 @@
 
 ghost use Rattle.slt_dpcch.specs.Outcome.{DpcchMap, DpcchRead, DpcchFrameMap, DpcchFrameRead};
 
-use packed::pack;
+use packed::{answer, done};
 
 #[unsafe(no_mangle)]
 pub extern "C" fn slt_dpcch_map(
@@ -17,7 +17,7 @@ pub extern "C" fn slt_dpcch_map(
 ) -> u64
     ensures { DpcchMap format slot tpc tfci.now fbi.now out.old result out.new }
 {
-    pack(dpcch_map::map(format, slot, tpc, tfci, fbi, out), 0)
+    done(dpcch_map::map(format, slot, tpc, tfci, fbi, out))
 }
 
 #[unsafe(no_mangle)]
@@ -30,9 +30,7 @@ pub extern "C" fn slt_dpcch_read(
 ) -> u64
     ensures { DpcchRead format slot run.now tfci.old fbi.old result tfci.new fbi.new }
 {
-    let command = dpcch_read::read(format, slot, run, tfci, fbi);
-    let verdict = command.verdict;
-    pack(verdict, command.tpc)
+    answer(dpcch_read::read(format, slot, run, tfci, fbi))
 }
 
 #[unsafe(no_mangle)]
@@ -45,7 +43,7 @@ pub extern "C" fn slt_dpcch_frame_map(
 ) -> u64
     ensures { DpcchFrameMap format tfci.now fbi.now out.old commands.now result out.new }
 {
-    pack(dpcch_frame_map::map(format, tfci, fbi, out, commands), 0)
+    done(dpcch_frame_map::map(format, tfci, fbi, out, commands))
 }
 
 #[unsafe(no_mangle)]
@@ -58,8 +56,5 @@ pub extern "C" fn slt_dpcch_frame_read(
 ) -> u64
     ensures { DpcchFrameRead format frame.now tfci.old fbi.old commands.old result tfci.new fbi.new commands.new }
 {
-    pack(
-        dpcch_frame_read::read(format, frame, tfci, fbi, commands),
-        0,
-    )
+    done(dpcch_frame_read::read(format, frame, tfci, fbi, commands))
 }

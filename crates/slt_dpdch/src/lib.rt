@@ -3,32 +3,32 @@
 
 ghost use Rattle.slt_dpdch.specs.Outcome.{DpdchMap, DpdchRead, DpdchFrameMap, DpdchFrameRead};
 
-use packed::pack;
+use packed::done;
 
 #[unsafe(no_mangle)]
 pub extern "C" fn slt_dpdch_map(format: usize, data: &[u8], out: &mut [u8]) -> u64
     ensures { DpdchMap format «data».now out.old result out.new }
 {
-    pack(dpdch::map(format, data, out), 0)
+    done(dpdch::map(format, data, out))
 }
 
 #[unsafe(no_mangle)]
 pub extern "C" fn slt_dpdch_read(format: usize, run: &[u8], data: &mut [u8]) -> u64
     ensures { DpdchRead format run.now «data».old result «data».new }
 {
-    pack(dpdch::read(format, run, data), 0)
+    done(dpdch::read(format, run, data))
 }
 
 #[unsafe(no_mangle)]
 pub extern "C" fn slt_dpdch_frame_map(format: usize, data: &[u8], out: &mut [u8]) -> u64
     ensures { DpdchFrameMap format «data».now out.old result out.new }
 {
-    pack(dpdch::frame_map(format, data, out), 0)
+    done(dpdch::frame_map(format, data, out))
 }
 
 #[unsafe(no_mangle)]
 pub extern "C" fn slt_dpdch_frame_read(format: usize, frame: &[u8], data: &mut [u8]) -> u64
     ensures { DpdchFrameRead format frame.now «data».old result «data».new }
 {
-    pack(dpdch::frame_read(format, frame, data), 0)
+    done(dpdch::frame_read(format, frame, data))
 }

@@ -3,7 +3,7 @@
 
 ghost use Rattle.slt_frame.specs.Outcome.{FrameMap, FrameRead};
 
-use packed::pack;
+use packed::done;
 
 #[unsafe(no_mangle)]
 pub extern "C" fn slt_frame_map(
@@ -15,7 +15,7 @@ pub extern "C" fn slt_frame_map(
 ) -> u64
     ensures { FrameMap format «data».now tfci.now out.old commands.now result out.new }
 {
-    pack(frame_map::map(format, data, tfci, out, commands), 0)
+    done(frame_map::map(format, data, tfci, out, commands))
 }
 
 #[unsafe(no_mangle)]
@@ -28,5 +28,5 @@ pub extern "C" fn slt_frame_read(
 ) -> u64
     ensures { FrameRead format frame.now «data».old tfci.old commands.old result «data».new tfci.new commands.new }
 {
-    pack(frame_read::read(format, frame, data, tfci, commands), 0)
+    done(frame_read::read(format, frame, data, tfci, commands))
 }

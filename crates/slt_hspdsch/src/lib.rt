@@ -3,7 +3,7 @@
 
 ghost use Rattle.slt_hspdsch.specs.Outcome.{HspdschMap, HspdschRead};
 
-use packed::pack;
+use packed::done;
 
 #[unsafe(no_mangle)]
 pub extern "C" fn slt_hspdsch_map(
@@ -14,7 +14,7 @@ pub extern "C" fn slt_hspdsch_map(
 ) -> u64
     ensures { HspdschMap format «data».now antenna1.old antenna2.old result antenna1.new antenna2.new }
 {
-    pack(hspdsch_map::map(format, data, antenna1, antenna2), 0)
+    done(hspdsch_map::map(format, data, antenna1, antenna2))
 }
 
 #[unsafe(no_mangle)]
@@ -26,5 +26,5 @@ pub extern "C" fn slt_hspdsch_read(
 ) -> u64
     ensures { HspdschRead format antenna1.now antenna2.now «data».old result «data».new }
 {
-    pack(hspdsch_read::read(format, antenna1, antenna2, data), 0)
+    done(hspdsch_read::read(format, antenna1, antenna2, data))
 }

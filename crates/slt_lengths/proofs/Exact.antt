@@ -1,6 +1,5 @@
 -- The theorems of specs/Exact.antt.
 -- Assumes nothing.
-use mathlib.Core.List.{[]}
 use lib.Dec.{lit<}
 use Rattle.run.proofs.Chain.{one_outcome, leaves_small}
 use Rattle.lengths.proofs.Exact.{packs, short}

@@ -1,17 +1,17 @@
 -- An answer of the crate `lengths`, packed, where number, place and length fit their fields.
 -- Assumes nothing.
-use mathlib.Core.Path.{◌≡◌, ap, ◌∙◌, subst, sym}
+use mathlib.Core.Path.{◌≡◌, ap, ◌∙◌}
 use mathlib.Core.List.{List}
 use Prim.Native.Nat.{ℕ, ◌<◌}
 use lib.Dec.{lit<}
 use lib.ListN.{get_or}
-use Rattle.run.specs.declared.Verdict.{Verdict}
+use Rattle.run.specs.Verdict.{Verdict}
 use Rattle.run.specs.Verdicts.{Narrow}
 use Rattle.run.proofs.Chain.{leaves_small}
 use Rattle.packed.specs.Rule.{packed}
 use Rattle.packed.specs.Outcome.{packed_cut}
 use Rattle.packed.proofs.Exact.{fitted}
-use Rattle.lengths.specs.declared.Length.{Length}
+use Rattle.lengths.specs.Length.{Length}
 use Rattle.lengths.specs.Outcome.{told_verdict, Told}
 use Rattle.slt_lengths.specs.Outcome.{LengthTold}
 

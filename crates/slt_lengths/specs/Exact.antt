@@ -1,7 +1,7 @@
 -- What an answer of a C call tells, and that a promise allows one answer. Proved in proofs/Exact.antt, each under its name in small letters.
 -- Assumes nothing.
 use Rattle.std.specs.Prelude.{ℕ, ◌≡◌, List, [], get_or}
-use Rattle.run.specs.declared.Verdict.{Verdict}
+use Rattle.run.specs.Verdict.{Verdict}
 use Rattle.run.specs.Verdicts.{leaves}
 use Rattle.dpch.specs.Compressed.{format_in}
 use Rattle.dpch.specs.Heads.{frame_head}

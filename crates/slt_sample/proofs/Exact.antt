@@ -4,11 +4,11 @@ use mathlib.Core.Path.{◌≡◌, ap, ◌∙◌}
 use Prim.Native.Nat.{ℕ}
 use lib.Dec.{lit<}
 use lib.IntN.{ℤ}
-use Rattle.run.specs.declared.Verdict.{Verdict}
+use Rattle.run.specs.Verdict.{Verdict}
 use Rattle.run.specs.Verdicts.{Narrow}
 use Rattle.run.proofs.Chain.{one_outcome}
 use Rattle.sample.specs.declared.Setting.{Setting}
-use Rattle.sample.specs.declared.Sampled.{Sampled}
+use Rattle.sample.specs.Answers.{Sampled}
 use Rattle.sample.specs.Outcome.{Take}
 use Rattle.sample.proofs.Exact as sample-exact
 use Rattle.slt_sample.specs.declared.SltSample.{SltSample}

@@ -5,7 +5,7 @@ use Rattle.std.specs.Prelude.{ℕ, ◌≡◌, ℤ, Float}
 use Rattle.run.specs.Verdicts.{leaves}
 use Rattle.sample.specs.declared.Setting.{Setting}
 use Rattle.sample.specs.declared.Setting.TheVariants.{Off, Shared, Each}
-use Rattle.sample.specs.declared.Sampled.{Sampled}
+use Rattle.sample.specs.Answers.{Sampled}
 use Rattle.sample.specs.Rule.{plus_zero, part}
 use Rattle.sample.specs.Outcome.{take_verdict}
 use Rattle.slt_sample.specs.declared.SltSample.{SltSample}

@@ -2,11 +2,14 @@
 #![tactic(auto)]
 
 ghost use Rattle.std.specs.Prelude.{◌≡◌};
+ghost use Rattle.run.specs.Answers.{verdict_of};
 ghost use Rattle.run.specs.Verdicts.{Narrow};
+ghost use Rattle.sample.specs.Answers.{sampled_of};
 ghost use Rattle.slt_sample.specs.Outcome.{packed_sample, SampleOff, SampleShared, SampleEach};
 
-use packed::pack;
-use sample::{Sampled, Setting};
+use packed::done;
+use run::Refusal;
+use sample::{Sample, Setting};
 
 // A sample for C: number and place packed, with value 0, and the two parts beside them. An enum cannot cross to C, so there is a call for each setting.
 #[repr(C)]
@@ -17,16 +20,22 @@ pub struct SltSample {
     pub quadrature: f32,
 }
 
-fn pack_sample(sampled: Sampled) -> SltSample
-    requires { Narrow sampled.verdict }
-    ensures { result ≡ packed_sample sampled }
+// A refused sample is +0, +0.
+fn pack_sample(sampled: Result<Sample, Refusal>) -> SltSample
+    requires { Narrow (verdict_of sampled) }
+    ensures { result ≡ packed_sample (sampled_of sampled) }
 {
-    let verdict = sampled.verdict;
-    let parts = sampled.sample;
-    SltSample {
-        answer: pack(verdict, 0),
-        inphase: parts.inphase,
-        quadrature: parts.quadrature,
+    match sampled {
+        Ok(sample) => SltSample {
+            answer: done(Ok(())),
+            inphase: sample.inphase,
+            quadrature: sample.quadrature,
+        },
+        Err(refusal) => SltSample {
+            answer: done(Err(refusal)),
+            inphase: 0.0,
+            quadrature: 0.0,
+        },
     }
 }
 

@@ -3,8 +3,6 @@
 
 ghost use Rattle.slt_slot.specs.Outcome.{SlotMap, SlotRead};
 
-use packed::pack;
-
 #[unsafe(no_mangle)]
 pub extern "C" fn slt_slot_map(
     format: usize,
@@ -16,7 +14,7 @@ pub extern "C" fn slt_slot_map(
 ) -> u64
     ensures { SlotMap format slot tpc «data».now tfci.now out.old result out.new }
 {
-    pack(slot_map::map(format, slot, tpc, data, tfci, out), 0)
+    packed::done(slot_map::map(format, slot, tpc, data, tfci, out))
 }
 
 #[unsafe(no_mangle)]
@@ -29,7 +27,5 @@ pub extern "C" fn slt_slot_read(
 ) -> u64
     ensures { SlotRead format slot run.now «data».old tfci.old result «data».new tfci.new }
 {
-    let command = slot_read::read(format, slot, run, data, tfci);
-    let verdict = command.verdict;
-    pack(verdict, command.tpc)
+    packed::answer(slot_read::read(format, slot, run, data, tfci))
 }

@@ -2,7 +2,7 @@
 -- Assumes nothing.
 use Rattle.std.specs.Prelude.{ℕ, ◌≡◌, List, length, leb, ℤ, neg_ℤ}
 use Rattle.run.specs.Verdicts.{leaves}
-use Rattle.run.specs.declared.Verdict.{Verdict}
+use Rattle.run.specs.Verdict.{Verdict}
 use Rattle.run.specs.Refusals.{length_refused}
 use Rattle.run.specs.Verdicts.{or_else, unless}
 use Rattle.sttd.specs.Rule.{sttd, bar_digit}

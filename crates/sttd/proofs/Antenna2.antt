@@ -10,7 +10,7 @@ use lib.Dec.{leb}
 use lib.ListN.{length, get_or, length-map, get_or-map}
 use lib.Seq.{take-length, drop-length}
 use lib.IntN.{ℤ, pos, neg_ℤ, ◌+ℤ◌, ◌-ℤ◌, ◌*ℤ◌, neg_ℤ-neg_ℤ, neg_ℤ-+ℤ}
-use Rattle.run.specs.declared.Verdict.{Verdict}
+use Rattle.run.specs.Verdict.{Verdict}
 use Rattle.run.specs.Table.{tab}
 use Rattle.run.specs.Verdicts.{done}
 use Rattle.run.proofs.Chain.{or_else_pass, unless_pass, each_pass}

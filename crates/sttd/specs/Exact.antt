@@ -2,7 +2,7 @@
 -- Each statement is proved in proofs/Exact.antt under its name in small letters.
 -- Assumes nothing.
 use Rattle.std.specs.Prelude.{ℕ, ◌+◌, ◌*◌, ◌≤◌, ◌<◌, ◌≡◌, List, [], ◌∷◌, length, get_or, drop, ℤ}
-use Rattle.run.specs.declared.Verdict.{Verdict}
+use Rattle.run.specs.Verdict.{Verdict}
 use Rattle.run.specs.Verdicts.{Narrow}
 use Rattle.sttd.specs.Rule.{sttd}
 use Rattle.sttd.specs.Outcome.{digits_verdict, Digits, values_verdict, Values}

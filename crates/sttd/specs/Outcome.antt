@@ -1,7 +1,7 @@
 -- docs/RULES.md, 'STTD': what each call answers and leaves in each lent run, for all inputs.
 -- Assumes nothing.
 use Rattle.std.specs.Prelude.{ℕ, ◌*◌, ◌/◌, ◌%◌, min, ◌≡◌, Bool, List, length, take, eqb, ℤ, pos, negsuc, neg_ℤ}
-use Rattle.run.specs.declared.Verdict.{Verdict}
+use Rattle.run.specs.Verdict.{Verdict}
 use Rattle.run.specs.First.{at_most}
 use Rattle.run.specs.Ranges.{between, in_range}
 use Rattle.run.specs.Refusals.{length_refused, digit_refused, range_refused}

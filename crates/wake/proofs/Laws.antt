@@ -2,19 +2,27 @@
 -- Assumes nothing.
 use mathlib.Core.Path.{◌≡◌, refl, sym, ap, ◌∙◌}
 use mathlib.Core.Bool.{Bool, true, false, cond}
-use mathlib.Core.List.{List}
+use mathlib.Core.List.{List, ◌++◌}
 use Prim.Native.Nat.{ℕ, ◌+◌, ◌%◌, ◌<◌}
 use native.Mathlib.Nat.{add-zero}
 use native.Mathlib.Omega.{arith}
 use borrow.Author.Tests.{eqb-true, eqb-false, ltb-true, ne_eqb}
 use lib.Dec.{eqb, ltb}
-use lib.ListN.{length, get_or}
-use Rattle.run.specs.declared.Verdict.{Verdict}
+use lib.ListN.{length, get_or, get_or-append}
+use Rattle.run.specs.Verdict.{Verdict}
 use Rattle.run.specs.Count.{count}
-use Rattle.run.specs.Verdicts.{leaves}
+use Rattle.run.specs.Verdicts.{refused, done, or_else, leaves}
+use Rattle.run.specs.Answers.{number_of, verdict_of, value_of}
+use Rattle.run.specs.declared.refusal.Refusal.{Refusal}
+use Rattle.run.proofs.Answers.{refuses, handed, left, written}
+use Rattle.std.specs.Prelude.{Result, Ok, Err}
+use Rattle.std.specs.Result.{IsErrAnd}
+use Rattle.pich.specs.Outcome.{Read}
+use Rattle.wake.specs.Exact.{simulated}
 use Rattle.run.proofs.Bools.{and_left, and_right}
-use Rattle.run.proofs.Chain.{or_else_done, or_else_next, or_else_refused, unless_done, leaves_done, leaves_refused}
+use Rattle.run.proofs.Chain.{or_else_done, or_else_refused, unless_done, leaves_done, number_0}
 use Rattle.run.proofs.Count.{count_same, count_sum}
+use Rattle.pich.proofs.Laws.{indicators_length}
 use Rattle.pich.specs.Rule.{indicators_in, q_of}
 use Rattle.pich.specs.Outcome.{q_verdict, read_verdict}
 use Rattle.wake.specs.declared.Tally.{Tally}
@@ -138,33 +146,35 @@ module _ (np pi : ℕ) (t : Tally) (frame : List ℕ) where
       record { head_ok = a.first; q_ok = b.first; read_ok = b.rest }
 
   -- refused by the frame's verdict: the tally is as it was
-  pub frame_stops : (v : Verdict) → v ≡ frame_verdict np pi t frame → (v.number ≡ 0 → ⊥) → Frame np pi t frame (record { verdict = v; tally = t })
+  pub frame_stops : {A : Type 0} (r : Result A Refusal) (x : Refusal) → IsErrAnd r (λ e. e ≡ x) → refused (number_of x.reason) x.place ≡ frame_verdict np pi t frame
+      → Frame np pi t frame (simulated (verdict_of r) t)
   unfolding frame_tally
-  frame_stops v e h = record { verdict_is = e; tally_is = sym (leaves_refused (frame_verdict np pi t frame) _ t (rw (← e) h)) }
-
-  pub head_is : ((frame_head t.read t.woke (length frame)).number ≡ 0 → ⊥) → frame_head t.read t.woke (length frame) ≡ frame_verdict np pi t frame
-  unfolding frame_verdict
-  head_is h = sym (or_else_refused _ _ h)
-
-  pub q_is : (frame_head t.read t.woke (length frame)).number ≡ 0 → ((q_verdict np (record { 0 = pi }) t.next).number ≡ 0 → ⊥)
-      → q_verdict np (record { 0 = pi }) t.next ≡ frame_verdict np pi t frame
-  unfolding frame_verdict
-  q_is a h = sym (or_else_next _ _ a ∙ or_else_refused _ _ h)
-
-  pub read_is : (frame_head t.read t.woke (length frame)).number ≡ 0 → (q_verdict np (record { 0 = pi }) t.next).number ≡ 0 → read_verdict np frame np ≡ frame_verdict np pi t frame
-  unfolding frame_verdict
-  read_is a b = sym (or_else_next _ _ a ∙ or_else_next _ _ b)
+  frame_stops r x h e = record { verdict_is = handed r x h ∙ e; tally_is = left x _ t e }
 
   -- read: the tally one frame on
-  pub frame_read : (v : Verdict) → v ≡ frame_verdict np pi t frame → v.number ≡ 0
+  pub frame_read : done ≡ frame_verdict np pi t frame
       → (u : Tally) → u ≡ record { read = t.read + 1; woke = t.woke + cond (eqb (get_or (indicators_in np frame) (q_of np pi t.next) 0) 1) 1 0; next = (t.next + 1) % 4096 }
-      → Frame np pi t frame (record { verdict = v; tally = u })
+      → Frame np pi t frame (simulated done u)
   unfolding frame_tally tally_at woken count wakes sfn_at
-  frame_read v e h u is =
-      record {
-        verdict_is = e;
-        tally_is = is ∙ one ∙ sym (leaves_done (frame_verdict np pi t frame) (tally_at np pi t (λ (k : ℕ). frame) 1) t (rw (← e) h));
-      }
+  frame_read e u is = record { verdict_is = e; tally_is = written (tally_at np pi t (λ (k : ℕ). frame) 1) t e (is ∙ one) }
     where
       one : ◌≡◌ {A = Tally} (record { read = t.read + 1; woke = t.woke + cond (eqb (get_or (indicators_in np frame) (q_of np pi t.next) 0) 1) 1 0; next = (t.next + 1) % 4096 }) (tally_at np pi t (λ (k : ℕ). frame) 1)
       one = same_tally refl (let z : t.woke + cond (eqb (get_or (indicators_in np frame) (q_of np pi t.next) 0) 1) 1 0 ≡ t.woke + (0 + cond (eqb (get_or (indicators_in np frame) (q_of np pi t.next) 0) 1) 1 0) = omega arith in z) refl
+
+-- an indicator of a frame, where the reader hands all of them back
+pub looked : (np q : ℕ) (digits before new rest : List ℕ) → q < np → length before ≡ np → Read np digits before done new
+    → (done ≡ read_verdict np digits np) × (get_or (new ++ rest) q 0 ≡ leaves (read_verdict np digits np) (get_or (indicators_in np digits) q 0) 0)
+looked np q digits before new rest h n r =
+    let told : done ≡ read_verdict np digits np = rw n at r.verdict_is in
+    let is : new ≡ indicators_in np digits = r.indicators_is ∙ leaves_done _ _ _ (number_0 (sym r.verdict_is)) in
+    (told, written (get_or (indicators_in np digits) q 0) 0 told (rw is (get_or-append (indicators_in np digits) rest 0 q (rw (indicators_length np digits) h))))
+
+-- .. and where it refuses
+pub looked_refused : (r : Result ℕ Refusal) (x : Refusal) {v : Verdict} (value : ℕ) → IsErrAnd r (λ e. e ≡ x) → refused (number_of x.reason) x.place ≡ v
+    → (verdict_of r ≡ v) × (value_of r ≡ leaves v value 0)
+looked_refused (Ok n) x value h e = absurd h
+looked_refused (Err y) x value h e = (handed {A = ℕ} (Err y) x h ∙ e, left x value 0 e)
+
+-- a check that refuses ends the chain that it begins
+pub ends : (x : Refusal) {v : Verdict} (w : Verdict) → refused (number_of x.reason) x.place ≡ v → refused (number_of x.reason) x.place ≡ or_else v w
+ends x w e = rw (sym e) (sym (or_else_refused _ w (refuses x x.place)))

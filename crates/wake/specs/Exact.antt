@@ -1,12 +1,12 @@
 -- The theorems of the wake simulation (docs/RULES.md, 'Wake simulation'). Each statement is proved in proofs/Exact.antt under its name in small letters.
 -- Assumes nothing.
 use Rattle.std.specs.Prelude.{ℕ, zero, suc, ◌+◌, ◌*◌, ◌/◌, ◌%◌, ◌≤◌, ◌<◌, ◌≡◌, cond, List, ◌++◌, eqb, length, get_or}
-use Rattle.run.specs.declared.Verdict.{Verdict}
+use Rattle.run.specs.Verdict.{Verdict}
 use Rattle.run.specs.Verdicts.{done, Narrow}
 use Rattle.pich.specs.Rule.{q_of}
 use Rattle.pich.specs.Exact.{Gives}
 use Rattle.wake.specs.declared.Tally.{Tally}
-use Rattle.wake.specs.declared.Simulated.{Simulated}
+use Rattle.wake.specs.Simulated.{Simulated}
 use Rattle.wake.specs.Rule.{frame_at, wakes, woken}
 use Rattle.wake.specs.Outcome.{frame_verdict, frame_tally, Frame, verdict_at, run_verdict, frames_read, run_tally, Run}
 

@@ -1,13 +1,13 @@
 -- docs/RULES.md, 'Wake simulation': what each call answers, and the tally that it leaves, for all inputs.
 -- Assumes nothing.
 use Rattle.std.specs.Prelude.{ℕ, ◌/◌, ◌%◌, ◌≡◌, Bool, ◌&&◌, List, eqb, ltb, length}
-use Rattle.run.specs.declared.Verdict.{Verdict}
+use Rattle.run.specs.Verdict.{Verdict}
 use Rattle.run.specs.First.{first_bad}
 use Rattle.run.specs.Refusals.{length_refused, count_refused}
 use Rattle.run.specs.Verdicts.{or_else, unless, chain, leaves}
 use Rattle.pich.specs.Outcome.{q_verdict, read_verdict}
 use Rattle.wake.specs.declared.Tally.{Tally}
-use Rattle.wake.specs.declared.Simulated.{Simulated}
+use Rattle.wake.specs.Simulated.{Simulated}
 use Rattle.wake.specs.Rule.{frame_at, tally_at}
 
 -- both counts have room for one more: neither is 4294967295

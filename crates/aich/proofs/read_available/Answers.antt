@@ -1,64 +1,42 @@
 -- `aich::read_available` meets its contract: the base's checks, then the set, and then the base's own writer.
-use mathlib.Core.Path.{refl, sym, ap, ◌∙◌}
-use native.Mathlib.Omega.{arith}
+use mathlib.Core.Path.{sym, ap, ◌∙◌}
 use lib.ListN.{length}
-use Rattle.run.proofs.Passing.{all_every}
-use Rattle.aich.specs.Method.{alike}
+use Rattle.run.proofs.Answers.{handed, left, written, stops, goes_on}
+use Rattle.run.proofs.Chain.{number_0}
+use Rattle.aich.specs.Outcome.{set_verdict, read_available_verdict}
+use Rattle.aich.specs.Method.{units_of}
 use Rattle.aich.proofs.Laws.{half_length}
-use Rattle.aich.proofs.Checks.{headed, unlike_stops, unfit_stops, sums_fit, read_head_refused, read_refused as base-refused}
-use Rattle.aich.proofs.Available.{read_refused, read_stray, read_done, some_stray, none_stray}
+use Rattle.aich.proofs.Reading.{given_units}
+use Rattle.aich.proofs.Checks.{accepted}
+use Rattle.aich.proofs.Available.{asked}
 use Rattle.aich.proofs.read_available.Goals as goal
 
-pub returns-then-head-ne0 : goal.returns-then-head-ne0
-returns-then-head-ne0 c =
-    let e = c.read_head-head.ensures in
-    let refused = rw e at c.if-head-ne0.true in
-    rw e (read_refused _ _ _ (read_head_refused _ _ refused) refused)
+pub returns-in_err-check_read : goal.returns-in_err-check_read
+unfolding read_available_verdict
+returns-in_err-check_read c =
+    let e = stops _ _ _ c.from_residual.ensures.1 c.in_err-check_read.ensures.verdict_is in
+    record { verdict_is = e; indicators_is = left c.in_err-check_read.field-0.0 _ _ (sym (handed _ _ c.from_residual.ensures.1) ∙ e) }
 
-pub all_alike-requires : goal.all_alike-requires
-all_alike-requires c = (headed _ _ (rw c.read_head-head.ensures at c.if-head-ne0.false)).values_ok
+pub check-requires : goal.check-requires
+check-requires c = ap length c.in_ok-check_read.ensures.sums_are ∙ half_length _
 
-pub returns-then-not-all_alike : goal.returns-then-not-all_alike
-returns-then-not-all_alike c =
-    read_refused _ _ _
-    (base-refused _ _ (rw c.read_head-head.ensures at c.if-head-ne0.false) (unlike_stops _ (sym c.all_alike.ensures ∙ c.if-not-all_alike.true)))
-    (λ n. let z : ⊥ = omega arith in z)
-
-pub find_sums-requires : goal.find_sums-requires
-find_sums-requires c = (
-  record {
-    long = (headed _ _ (rw c.read_head-head.ensures at c.if-head-ne0.false)).values_ok;
-    like = all_every 16 (alike c.args.values.now) (sym c.all_alike.ensures ∙ c.if-not-all_alike.false);
-  },
-  refl,
-)
-
-pub returns-then-not-all_fit : goal.returns-then-not-all_fit
-returns-then-not-all_fit c =
-    read_refused _ _ _
-    (base-refused _ _ (rw c.read_head-head.ensures at c.if-head-ne0.false)
-    (unfit_stops _ _ c.find_sums.ensures (sym c.all_fit.ensures ∙ c.if-not-all_fit.true)))
-    (λ n. let z : ⊥ = omega arith in z)
-
-pub returns-then-not-none_stray : goal.returns-then-not-none_stray
-returns-then-not-none_stray c =
-    let e = c.first_stray.ensures in
-    read_stray _ _ _ _ (rw c.read_head-head.ensures at c.if-head-ne0.false)
-    (all_every 16 (alike c.args.values.now) (sym c.all_alike.ensures ∙ c.if-not-all_alike.false)) c.find_sums.ensures
-    (sums_fit _ _ c.find_sums.ensures c.all_fit.ensures c.if-not-all_fit.false) _ e
-    (rw e (some_stray _ _ c.none_stray.ensures c.if-not-none_stray.true))
+pub returns-in_err-check : goal.returns-in_err-check
+unfolding read_available_verdict
+returns-in_err-check c =
+    let summed = c.in_ok-check_read.ensures in
+    let gives = (accepted _ _ (number_0 (sym summed.verdict_is))).gives in
+    let e = goes_on summed.verdict_is (c.in_err-check.ensures ∙ ap (set_verdict c.args.available) summed.sums_are ∙ asked _ _ gives) in
+    record { verdict_is = handed _ _ c.from_residual-in_err-check.ensures.1 ∙ e; indicators_is = left _ _ _ e }
 
 pub write_indicators-requires : goal.write_indicators-requires
-write_indicators-requires c = (
-  ap length c.find_sums.ensures ∙ half_length _,
-  (headed _ _ (rw c.read_head-head.ensures at c.if-head-ne0.false)).indicators_ok,
-)
+write_indicators-requires c =
+    let summed = c.in_ok-check_read.ensures in
+    (ap length summed.sums_are ∙ half_length _, (accepted _ _ (number_0 (sym summed.verdict_is))).head.indicators_ok)
 
 pub returns : goal.returns
+unfolding read_available_verdict
 returns c =
-    let e = c.read_head-head.ensures in
-    rw e
-    (read_done _ _ _ _ (rw e at c.if-head-ne0.false)
-    (all_every 16 (alike c.args.values.now) (sym c.all_alike.ensures ∙ c.if-not-all_alike.false)) c.find_sums.ensures
-    (sums_fit _ _ c.find_sums.ensures c.all_fit.ensures c.if-not-all_fit.false)
-    (none_stray _ _ c.none_stray.ensures c.if-not-none_stray.false) c.write_indicators.ensures)
+    let summed = c.in_ok-check_read.ensures in
+    let gives = (accepted _ _ (number_0 (sym summed.verdict_is))).gives in
+    let e = goes_on summed.verdict_is (c.in_ok-check.ensures ∙ ap (set_verdict c.args.available) summed.sums_are ∙ asked _ _ gives) in
+    record { verdict_is = e; indicators_is = written _ _ e (c.write_indicators.ensures ∙ ap units_of summed.sums_are ∙ given_units _ gives) }

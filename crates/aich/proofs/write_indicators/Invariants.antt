@@ -1,10 +1,7 @@
-use Prim.Native.Nat.{◌-◌, ◌≤◌}
+use Prim.Native.Nat.{◌≤◌}
 use Rattle.run.proofs.Front.{Front}
 use Rattle.aich.specs.Method.{units_of}
 use Rattle.aich.proofs.write_indicators.Given as goal
 
 abbrev pub invariant-loop-s : goal.invariant-loop-s
 invariant-loop-s l = (l.s ≤ 16) × Front (units_of l.sums) l.initial.indicators l.indicators l.s
-
-abbrev pub decreases-loop-s : goal.decreases-loop-s
-decreases-loop-s l = 16 - l.s

@@ -4,13 +4,11 @@ use Rattle.antenna.proofs.Checks.{first_mapped}
 use Rattle.antenna_map.proofs.Laws.{none_mapped}
 use Rattle.antenna_map.proofs.map.Goals as goal
 
-pub returns-then-antenna-eq0 : goal.returns-then-antenna-eq0
-returns-then-antenna-eq0 c = rw c.if-antenna-eq0.true (first_mapped _ _ _ _ _ _ c.map.ensures)
+pub returns-in-0 : goal.returns-in-0
+returns-in-0 c = rw c.in-0.is (first_mapped _ _ _ _ _ _ c.map.ensures)
 
-pub returns-then-antenna-eq1 : goal.returns-then-antenna-eq1
-returns-then-antenna-eq1 c = rw c.if-antenna-eq1.true c.map_second.ensures
+pub returns-in-1 : goal.returns-in-1
+returns-in-1 c = rw c.in-1.is c.map_second.ensures
 
-pub returns : goal.returns
-returns c =
-    let start = c in
-    none_mapped _ _ start.args.antenna _ _ _ start.args.out.now _ (let p = c.if-antenna-eq0.false in let q = c.if-antenna-eq1.false in omega arith) c.no_antenna.ensures
+pub returns-in_default : goal.returns-in_default
+returns-in_default c = none_mapped _ _ c.args.antenna _ _ _ c.args.out.now _ (omega arith) c.no_antenna.ensures

@@ -1,17 +1,17 @@
--- `antenna_map::through` meets its contract: the base's verdict, and antenna 2's digits made of antenna 1's.
-use mathlib.Core.Path.{◌∙◌}
-use Rattle.run.proofs.Chain.{leaves_done}
+-- `antenna_map::through` meets its contract: the base's checks, and antenna 2's digits made of antenna 1's.
+use mathlib.Core.Path.{refl, sym, ◌∙◌}
+use Rattle.run.proofs.Answers.{handed, refuses}
+use Rattle.run.proofs.Chain.{leaves_done, number_0}
 use Rattle.antenna.proofs.Checks.{second_refused, second_mapped}
 use Rattle.antenna_map.proofs.through.Goals as goal
 
-pub returns-then-verdict-ne0 : goal.returns-then-verdict-ne0
-returns-then-verdict-ne0 c =
-    let start = c in
-    second_refused _ _ _ _ _ _ (rw start.requires at c.map-verdict.ensures.verdict_is) c.if-verdict-ne0.true
+pub returns-in_err-map : goal.returns-in_err-map
+returns-in_err-map c =
+    let told = handed _ _ c.from_residual.ensures.1 in
+    let is = rw c.requires at c.in_err-map.ensures.verdict_is in
+    second_refused _ _ _ _ _ _ (told ∙ is) (λ z. refuses c.in_err-map.field-0.0 c.in_err-map.field-0.0.place (rw told at z))
 
 pub returns : goal.returns
 returns c =
-    let asked = c in
-    let start = c in
-    let m = asked.map-verdict.ensures in
-    second_mapped _ _ _ _ _ _ (rw start.requires at m.verdict_is) asked.if-verdict-ne0.false (m.out_is ∙ leaves_done _ _ _ (rw m.verdict_is at asked.if-verdict-ne0.false)) c.second_of.ensures
+    let m = c.in_ok-map.ensures in
+    second_mapped _ _ _ _ _ _ (rw c.requires at m.verdict_is) refl (m.out_is ∙ leaves_done _ _ _ (number_0 (sym m.verdict_is))) c.second_of.ensures

@@ -1,70 +1,53 @@
 -- `bank_check::is_bank` meets its contract: the loop is the walk of proofs/Walk.antt.
 use mathlib.Core.Path.{◌≡◌, sym, ◌∙◌}
-use Prim.Native.Nat.{◌-◌}
+use Prim.Native.Nat.{◌-◌, ◌<◌}
 use native.Mathlib.Omega.{arith}
 use lib.ListN.{take, drop}
-use Rattle.bank.specs.Outcome.{front_size}
+use Rattle.bank.specs.Outcome.{head_total, front_size}
+use Rattle.bank.proofs.Nonzero.{is_none, is_some, nonzero_not}
 use Rattle.bank_check.proofs.Whole.{bank_none, walking_start, walking_end, walking_none, walking_seen, size_fits, walking_next}
 use Rattle.bank_check.proofs.is_bank.Goals as goal
-use Rattle.bank_check.proofs.is_bank.Goals.{Else-size-eq0}
+use Rattle.bank_check.proofs.is_bank.Goals.{In-Some, In-Some-front_size}
 
--- a slot stands at the loop's place
-there : (c : Else-size-eq0) → front_size (take (c.head_total-total.result - c.loop-at.at) (drop c.loop-at.at c.args.bank.now)) ≡ 0 → ⊥
-there c e = c.if-size-eq0.false (c.front_size-size.ensures ∙ e)
+-- the total that the header gives, and the bytes of the slot at the loop's place
+headed : (c : In-Some) → (c.in-Some.total ≡ head_total c.args.bank.now) × (0 < c.in-Some.total)
+headed c = is_some (sym c.in-Some.is ∙ c.head_total.ensures)
 
-pub returns-then-total-eq0 : goal.returns-then-total-eq0
-returns-then-total-eq0 c = sym (bank_none _ (sym c.head_total-total.ensures ∙ c.if-total-eq0.true))
+sized : (c : In-Some-front_size) → (c.in-Some-front_size.size ≡ front_size (take (c.in-Some.total - c.loop-at.at) (drop c.loop-at.at c.args.bank.now))) × (0 < c.in-Some-front_size.size)
+sized c = is_some (sym c.in-Some-front_size.is ∙ c.front_size.ensures)
+
+there : (c : In-Some-front_size) → front_size (take (c.in-Some.total - c.loop-at.at) (drop c.loop-at.at c.args.bank.now)) ≡ 0 → ⊥
+there c e = nonzero_not (sym c.in-Some-front_size.is ∙ c.front_size.ensures) e
+
+pub returns-in_default : goal.returns-in_default
+returns-in_default c = sym (bank_none _ (is_none (sym c.in_default.is ∙ c.head_total.ensures)))
 
 pub loop-at-init : goal.loop-at-init
-loop-at-init c = walking_start _ _ c.head_total-total.ensures c.if-total-eq0.false
+loop-at-init c = let h = headed (goal.at.loop-at-init c).In-Some in walking_start _ _ h.0 (λ z. let w : ⊥ = omega arith in w)
 
-pub slice_bounds-front_size-start : goal.slice_bounds-front_size-start
-slice_bounds-front_size-start c = omega (arith, c.loop-at.invariant.fits)
+pub returns-in_default-front_size : goal.returns-in_default-front_size
+returns-in_default-front_size c =
+    sym (walking_none c.loop-at.invariant c.loop-at-test.true (is_none (sym c.in_default-front_size.is ∙ c.front_size.ensures)))
 
-pub slice_bounds-front_size-end : goal.slice_bounds-front_size-end
-slice_bounds-front_size-end c = omega (arith, c.loop-at.invariant.fits)
-
-pub returns-then-size-eq0 : goal.returns-then-size-eq0
-returns-then-size-eq0 c = sym (walking_none c.loop-at.invariant c.loop-at-test.true (sym c.front_size-size.ensures ∙ c.if-size-eq0.true))
-
-pub bounds-bank-at : goal.bounds-bank-at
-bounds-bank-at c = omega (arith, c.loop-at.invariant.fits)
-
-pub overflow_cast-number : goal.overflow_cast-number
-overflow_cast-number c = record { fits = omega (arith, c.shared_slice_known-in-loop-at-1.given c.loop-at.at) }
-
-pub bounds-seen-number : goal.bounds-seen-number
-bounds-seen-number c = omega (arith, c.shared_slice_known-in-loop-at-1.given c.loop-at.at)
-
-pub returns-then-seen-number-ne0 : goal.returns-then-seen-number-ne0
-returns-then-seen-number-ne0 c = let at_slot = c in sym (walking_seen at_slot.loop-at.invariant at_slot.loop-at-test.true (there (goal.at.returns-then-seen-number-ne0 c).Else-size-eq0) c.if-seen-number-ne0.true)
-
-pub bounds-seen-number-in-loop-at : goal.bounds-seen-number-in-loop-at
-bounds-seen-number-in-loop-at c = omega (arith, c.shared_slice_known-in-loop-at-1.given c.loop-at.at)
+pub returns-then-seen-number : goal.returns-then-seen-number
+returns-then-seen-number c =
+    sym (walking_seen c.loop-at.invariant c.loop-at-test.true (there (goal.at.returns-then-seen-number c).In-Some-front_size) c.if-seen-number.true)
 
 pub overflow_add-at : goal.overflow_add-at
 overflow_add-at c =
-    let at_slot = c in
-    let head = at_slot in
-    let e = at_slot.front_size-size.ensures in
-    let fits = size_fits head.loop-at.invariant at_slot.loop-at-test.true (there (goal.at.overflow_add-at c).Else-size-eq0) in
-    let all = head.loop-at.invariant.fits in
-    omega arith
+    let at_slot = (goal.at.overflow_add-at c).In-Some-front_size in
+    let e = (sized at_slot).0 in
+    let fits = size_fits c.loop-at.invariant c.loop-at-test.true (there at_slot) in
+    let all = c.loop-at.invariant.fits in
+    record { fits = omega arith }
 
 pub loop-at-smaller : goal.loop-at-smaller
-loop-at-smaller c =
-    let at_slot = c in
-    let some = at_slot.if-size-eq0.false in
-    let head = at_slot in
-    let e = at_slot.front_size-size.ensures in
-    let fits = size_fits head.loop-at.invariant at_slot.loop-at-test.true (there (goal.at.loop-at-smaller c).Else-size-eq0) in
-    omega arith
+loop-at-smaller c = let e = (sized (goal.at.loop-at-smaller c).In-Some-front_size).1 in omega arith
 
 pub loop-at-preserved : goal.loop-at-preserved
 loop-at-preserved c =
-    let at_slot = c in
-    let head = at_slot in
-    walking_next head.loop-at.invariant at_slot.loop-at-test.true (there (goal.at.loop-at-preserved c).Else-size-eq0) _ at_slot.front_size-size.ensures c.if-seen-number-ne0.false
+    let at_slot = (goal.at.loop-at-preserved c).In-Some-front_size in
+    walking_next c.loop-at.invariant c.loop-at-test.true (there at_slot) _ (sized at_slot).0 c.if-seen-number.false
 
 pub returns : goal.returns
 returns c = sym (walking_end c.loop-at.invariant c.loop-at-test.false)

@@ -1,48 +1,28 @@
--- `bank_drop::close` meets its contract: the laws of writing from the front, where each entry comes from behind what is written.
-use mathlib.Core.Path.{sym, ap, ◌∙◌}
-use Prim.Native.Nat.{ℕ, ◌+◌, ◌-◌, ◌<◌}
-use native.Mathlib.Nat.{add_comm}
+-- `bank_drop::close` meets its contract: each turn copies one byte more, which stands behind all that was written.
+use mathlib.Core.Path.{◌≡◌, sym, ap, ◌∙◌}
+use mathlib.Core.List.{List}
+use Prim.Native.Nat.{ℕ, ◌+◌, ◌-◌, ◌<◌, ◌≤◌}
 use native.Mathlib.Omega.{arith}
 use lib.ListN.{length, get_or, drop, length-drop}
-use lib.Seq.{get_or-drop}
-use Rattle.run.proofs.Front.{front_none, front_length, front_store, front_end, front_behind}
-use Rattle.run.proofs.Over.{over_length, over_at, over_rest}
+use lib.Seq.{paste, get_or-drop}
+use Rattle.std.proofs.lemmas.List.Edits.{paste_more, drop-paste}
 use Rattle.bank_drop.proofs.close.Goals as goal
 
-pub loop-i-init : goal.loop-i-init
-loop-i-init c = (front_none (over_length _ _), omega arith)
-
-pub overflow_add-s : goal.overflow_add-s
-overflow_add-s c = omega (arith, front_length c.loop-i.invariant.0)
-
-pub bounds-s-i : goal.bounds-s-i
-bounds-s-i c = omega (arith, front_length c.loop-i.invariant.0)
-
-pub bounds-s-i-in-loop-i : goal.bounds-s-i-in-loop-i
-bounds-s-i-in-loop-i c = omega (arith, front_length c.loop-i.invariant.0)
+-- a byte that was not written yet
+unread : (d : List ℕ) (start from i : ℕ) → start ≤ from → from + i < length d → get_or (paste d start (drop from d) i) (from + i) 0 ≡ get_or (drop from d) i 0
+unread d start from i below inside =
+    let n = length-drop from d in
+    let k : start + i + (from - start) ≡ from + i = omega arith in
+    ap (λ (j : ℕ). get_or (paste d start (drop from d) i) j 0) (sym k)
+    ∙ sym (get_or-drop (start + i) (paste d start (drop from d) i) (from - start) 0)
+    ∙ ap (λ (l : List ℕ). get_or l (from - start) 0) (drop-paste d start (drop from d) i (omega arith) (omega arith))
+    ∙ get_or-drop (start + i) d (from - start) 0
+    ∙ ap (λ (j : ℕ). get_or d j 0) k
+    ∙ sym (get_or-drop from d i 0)
 
 pub loop-i-preserved : goal.loop-i-preserved
 loop-i-preserved c =
-    let head = c in
-    let start = head in
-    let s = start.args.s.now in
-    let inside = front_length head.loop-i.invariant.0 in
-    let turn = c.loop-i-test.true in
-    let below : head.loop-i.i < length (drop start.args.gap s) = simp length-drop (omega arith) in (
-      front_store 0 head.loop-i.invariant.0 (omega arith)
-          (front_behind 0 head.loop-i.invariant.0 (head.loop-i.i + start.args.gap) (omega arith)
-          ∙ sym (over_at (drop start.args.gap s) s head.loop-i.i 0 (omega arith)
-          ∙ get_or-drop start.args.gap s head.loop-i.i 0
-          ∙ ap (λ (k : ℕ). get_or s k 0) (add_comm start.args.gap head.loop-i.i))),
-      omega arith,
-    )
-
-pub shape_of-s : goal.shape_of-s
-shape_of-s c = front_length c.loop-i.invariant.0
-
-pub returns : goal.returns
-returns c =
-    let head = c in
-    let start = head in
-    let n = length-drop start.args.gap start.args.s.now in
-    front_end head.loop-i.invariant.0 (over_rest (drop start.args.gap start.args.s.now) start.args.s.now head.loop-i.i (omega arith))
+    let d = c.args.bank.now in
+    let n = length-drop c.args.from d in
+    rw (c.loop-i.invariant, unread d c.args.start c.args.from c.loop-i.i c.requires.0 (omega (arith, c.requires, c.loop-i-test.true)))
+    (paste_more d c.args.start (drop c.args.from d) c.loop-i.i 0 (omega (arith, c.requires, c.loop-i-test.true)) (omega (arith, c.requires, c.loop-i-test.true)))

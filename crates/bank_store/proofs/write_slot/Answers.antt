@@ -1,35 +1,34 @@
 -- `bank_store::write_slot` meets its contract: four bytes, and then the digits.
-use mathlib.Core.Path.{◌≡◌, refl, sym}
+use mathlib.Core.Path.{◌≡◌, sym, ap, ◌∙◌}
+use mathlib.Core.List.{List, [], ◌∷◌, ◌++◌, append-nil}
+use Prim.Native.Nat.{ℕ, ◌+◌, ◌-◌, ◌/◌, ◌%◌, ◌≤◌}
 use native.Mathlib.Omega.{arith}
+use borrow.Rule.Slice.PartMut.{put_mid}
+use Rattle.std.specs.Int.{to_be_bytes}
+use mir.Syntax.{w16}
+use lib.ListN.{length, get_or, take, drop, drop_of_length-le, length-take, length-drop, length-append}
+use Rattle.run.proofs.Over.{over_whole}
 use Rattle.bank.specs.Layout.{slot_bytes}
-use mathlib.Core.List.{List, [], ◌∷◌}
-use Prim.Native.Nat.{ℕ, ◌+◌, ◌-◌, ◌/◌, ◌%◌}
-use borrow.Rule.Slice.PartMut.{put_mid, mid_of}
-use Rattle.run.specs.Written.{over}
-use lib.ListN.{length}
-use lib.Seq.{take-length}
-use Rattle.run.proofs.Front.{Front, front_none, front_all}
-use Rattle.run.proofs.Lent.{front_copied}
 use Rattle.bank_store.proofs.write_slot.Goals as goal
 
--- the four bytes in front, and then the digits
-both-copied : (number : ℕ) (slot dst : List ℕ) → length dst ≡ 4 + length slot → (xs ys : List ℕ)
-    → xs ≡ over (number ∷ 0 ∷ length slot / 256 ∷ length slot % 256 ∷ []) (mid_of 0 4 dst)
-    → ys ≡ over slot (mid_of 4 (4 + length slot - 4) (put_mid 0 4 dst xs))
-    → put_mid 4 (4 + length slot - 4) (put_mid 0 4 dst xs) ys ≡ slot_bytes (record { number = number; digits = slot })
+both_copied : (number : ℕ) (slot rest xs ys : List ℕ) → xs ≡ number ∷ 0 ∷ length slot / 256 ∷ length slot % 256 ∷ [] → ys ≡ slot
+    → put_mid 4 (length (xs ++ rest) - 4) (xs ++ rest) ys ≡ slot_bytes (record { number = number; digits = slot })
 unfolding slot_bytes
-both-copied number slot dst long xs ys e f =
-    let t : List ℕ = number ∷ 0 ∷ length slot / 256 ∷ length slot % 256 ∷ slot in
-    let front : List ℕ = number ∷ 0 ∷ length slot / 256 ∷ length slot % 256 ∷ [] in
-    let sized : length t ≡ length dst = omega arith in
-    let one : Front t dst (put_mid 0 4 dst xs) 4 = front_copied {t = t} {d₀ = dst} {d = dst} {ys = xs} front 0 4 (front_none sized) (omega arith) refl refl e in
-    front_all {t = t} {d₀ = dst}
-    (front_copied {t = t} {d₀ = dst} {d = put_mid 0 4 dst xs} {ys = ys} slot 4 (length slot) one (omega arith) refl (sym (take-length slot)) f)
-    (omega arith)
+both_copied number slot rest xs ys e f =
+    let front : List ℕ = number ∷ 0 ∷ length slot / 256 ∷ length slot % 256 ∷ rest in
+    let none : drop (length front - 4) rest ≡ [] = drop_of_length-le rest (omega arith) in
+    rw (e, f) (ap (λ (l : List ℕ). number ∷ 0 ∷ length slot / 256 ∷ length slot % 256 ∷ slot ++ l) none ∙ ap (λ (l : List ℕ). number ∷ 0 ∷ length slot / 256 ∷ length slot % 256 ∷ l) (append-nil slot))
+
+front_is : (number : ℕ) (slot bytes : List ℕ) → length slot ≤ 1280 → bytes ≡ to_be_bytes w16 (length slot)
+    → number ∷ 0 ∷ get_or bytes 0 0 ∷ get_or bytes 1 0 ∷ [] ≡ number ∷ 0 ∷ length slot / 256 ∷ length slot % 256 ∷ []
+front_is number slot bytes low e =
+    let high : length slot / 256 % 256 ≡ length slot / 256 = omega arith in
+    rw e (ap (λ (n : ℕ). number ∷ 0 ∷ n ∷ length slot % 256 ∷ []) high)
+
+-- the digits fill what is behind the four bytes
+long : (xs dst slot : List ℕ) → length xs ≡ 4 → length dst ≡ 4 + length slot → length slot ≡ length (take (length (xs ++ drop 4 dst) - 4) (drop 4 (xs ++ drop 4 dst)))
+long xs dst slot e f = simp (length-take, length-drop, length-append) (omega arith)
 
 pub returns : goal.returns
 returns c =
-    let second = c in
-    let first = second in
-    let start = first in
-    both-copied start.args.number start.args.slot.now start.args.dst.now start.requires.1 _ _ first.copy.ensures second.copy-2.ensures
+    both_copied c.args.number c.args.slot.now (drop 4 c.args.dst.now) _ _ (c.copy_from_slice.ensures.after ∙ front_is c.args.number c.args.slot.now _ c.requires.0 c.to_be_bytes.ensures) (c.copy.ensures ∙ over_whole _ _ (long _ c.args.dst.now _ (ap length c.copy_from_slice.ensures.after) c.requires.1))

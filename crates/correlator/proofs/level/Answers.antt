@@ -1,6 +1,5 @@
 -- `correlator::level` meets its contract: after k turns the first k entries of both halves are folded.
 use mathlib.Core.Path.{◌≡◌, refl}
-use Prim.Native.Nat.{◌-◌}
 use native.Mathlib.Omega.{arith}
 use lib.ListN.{length-set}
 use Rattle.correlator.proofs.Folding.{level_none, level_all, turn_sum, turn_difference, turn_level}

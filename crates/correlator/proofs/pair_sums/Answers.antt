@@ -1,6 +1,5 @@
 -- `correlator::pair_sums` meets its contract: each turn stores the sums of two symbols more.
 use mathlib.Core.Path.{◌≡◌, refl, ap, ◌∙◌}
-use Prim.Native.Nat.{◌-◌, ◌<◌}
 use native.Mathlib.Omega.{arith}
 use lib.Dec.{lit<}
 use lib.IntN.{ℤ, ◌+ℤ◌}

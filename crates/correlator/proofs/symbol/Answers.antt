@@ -8,6 +8,7 @@ use lib.Signed.{mag}
 use mir.Syntax.{w32, w64}
 use mir.Val.{to_z, of_z, hbits}
 use mir.Facts.{to_z-of_z, sfits_widen}
+use borrow.Author.Rules.{rules}
 use Rattle.correlator.proofs.symbol.Goals as goal
 
 -- part j, read from its bits and widened
@@ -22,6 +23,6 @@ returns c =
     let start = c in
     let parts = start.args.s.now in
     let k = start.args.k in
-    let re-is = widened parts (2 * k) _ c.wide-arg-1.given c.wide-re.ensures in
-    let im-is = widened parts (2 * k + 1) _ c.wide-arg-2-1.given c.wide-im.ensures in
+    let re-is = widened parts (2 * k) _ (search rules) c.from.ensures in
+    let im-is = widened parts (2 * k + 1) _ (search rules) c.from-2.ensures in
     λ i. record { re = re-is i; im = im-is i }

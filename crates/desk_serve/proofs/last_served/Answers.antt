@@ -1,5 +1,5 @@
 -- `desk_serve::last_served` meets its contract: each turn goes on to the next candidate in circular order.
-use Prim.Native.Nat.{◌-◌, ◌≤◌}
+use Prim.Native.Nat.{◌≤◌}
 use native.Mathlib.Omega.{arith}
 use lib.Count.{trailing_le}
 use Rattle.desk.proofs.Round.{ring_start, ring_next, ring_empty, ring_full}

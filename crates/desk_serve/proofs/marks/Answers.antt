@@ -1,6 +1,5 @@
 -- `desk_serve::marks` meets its contract: each turn stores the indicator of one signature more.
 use mathlib.Core.Path.{sym, ◌∙◌}
-use Prim.Native.Nat.{◌-◌}
 use native.Mathlib.Omega.{arith}
 use mir.Syntax.{w32}
 use mir.Facts.{to_z-of_z}

@@ -1,9 +1,10 @@
 -- `dpcch_fits::digits_fit` meets its contract: no check of the definition's chain refuses, field by field.
-use mathlib.Core.Path.{◌≡◌, sym, ◌∙◌}
+use mathlib.Core.Path.{◌≡◌, refl, sym, ◌∙◌}
 use Prim.Native.Nat.{◌+◌, ◌≤◌}
 use native.Mathlib.Omega.{arith}
-use lib.Dec.{lit<}
-use lib.ListN.{length}
+use lib.Dec.{eqb, lit<}
+use lib.ListN.{length, get_or}
+use Rattle.std.proofs.Math.Bool.{and_assoc}
 use Rattle.run.specs.First.{at_most}
 use Rattle.run.proofs.Chain.{both_fit_if, both_fit, each_fits}
 use Rattle.run.proofs.Passing.{all_every, front_all}
@@ -37,12 +38,12 @@ bounds-xs-b c = omega (arith, sums (goal.at.bounds-xs-b c).Start, c.requires.0.s
 pub returns : goal.returns
 unfolding digits_verdict
 returns c =
-    let start = c in
-    let f = start.args.f in
-    let xs = start.args.xs.now in
-    let w = start.requires.0 in
+    let f = c.args.f in
+    let xs = c.args.xs.now in
+    let w = c.requires.0 in
     let bits = front_all (length xs) f.slot (at_most 1 xs) w.slot_ok c.all_at_most.ensures in
-    both_fit_if _ _ c.both.ensures (each_fits 0 4 _ _ (lit< tt) bits)
-    (λ good. both_fit _ _ c.both-commands.ensures
-    (each_fits _ 5 _ _ (lit< tt) (command_told f xs w start.requires.1 (all_every _ (at_most 1 xs) (sym bits ∙ good))))
-    (each_fits _ 7 _ _ (lit< tt) (pilot_told f xs w start.args.slot c.is_pilot-last.ensures)))
+    let p = f.pilot + f.tfci + f.fbi in
+    both_fit_if _ _ (and_assoc c.all_at_most.result (eqb (get_or xs (p + 1) 0) (get_or xs p 0)) c.is_pilot.result) (each_fits 0 4 _ _ (lit< tt) bits)
+    (λ good. both_fit _ _ refl
+    (each_fits _ 5 _ _ (lit< tt) (command_told f xs w c.requires.1 (all_every _ (at_most 1 xs) (sym bits ∙ good))))
+    (each_fits _ 7 _ _ (lit< tt) (pilot_told f xs w c.args.slot c.is_pilot.ensures)))

@@ -1,22 +1,19 @@
 -- `dpcch_map::are_good` meets its contract.
-use mathlib.Core.Bool.{false≢true}
+use mathlib.Core.Path.{sym, ◌∙◌}
 use native.Mathlib.Omega.{arith}
+use borrow.Author.Tests.{leb-true}
 use Rattle.dpcch.proofs.Accept.{fields_pass}
 use Rattle.dpcch_map.proofs.are_good.Goals as goal
+use Rattle.dpcch_map.proofs.are_good.Goals.{then-tpc-le1, else-tpc-le1}
 
-pub returns-then-tpc-gt1 : goal.returns-then-tpc-gt1
-returns-then-tpc-gt1 c = λ e. absurd (false≢true e)
-
-pub returns-then-not-are_few_bits : goal.returns-then-not-are_few_bits
-returns-then-not-are_few_bits c = λ e. absurd (false≢true e)
-
-pub returns : goal.returns
-returns c =
-    λ e.
-    let a = c.args in
-    fields_pass a.tpc a.tfci.now a.fbi.now 0 0 0
-    (record {
-      tpc_ok = omega (arith, c.if-tpc-gt1.false);
-      tfci_bits = c.are_few_bits.ensures c.if-not-are_few_bits.false;
-      fbi_bits = c.are_few_bits-2.ensures e;
-    })
+pub returns-then-are_bits : goal.returns-then-are_bits
+returns-then-are_bits c =
+    λ good. elim c.if-tpc-le1.branch [
+      | then-tpc-le1 way ↦ fields_pass c.args.tpc c.args.tfci.now c.args.fbi.now 0 0 0
+          (record {
+            tpc_ok = way.if-tpc-le1.true;
+            tfci_bits = way.are_bits.ensures (sym way.value-is ∙ c.if-are_bits.true);
+            fbi_bits = c.are_bits-then-are_bits.ensures good;
+          })
+      | else-tpc-le1 way ↦ absurd (let small = leb-true _ _ (sym way.value-is ∙ c.if-are_bits.true) in let z : ⊥ = omega (arith, way.if-tpc-le1.false) in z)
+    ]

@@ -1,26 +1,23 @@
 -- `dpcch_map::map` meets its contract.
 use mathlib.Core.Path.{sym, ◌∙◌}
 use native.Mathlib.Omega.{arith}
-use Rattle.run.proofs.Chain.{leaves_done, leaves_refused}
+use Rattle.run.proofs.Answers.{handed, left, written}
+use Rattle.run.proofs.Chain.{number_0}
 use Rattle.dpcch.proofs.Accept.{mapped, sizes_pass}
 use Rattle.dpcch_map.proofs.map.Goals as goal
 
-pub returns-then-verdict-ne0 : goal.returns-then-verdict-ne0
-returns-then-verdict-ne0 c =
-    let e = c.map_verdict-verdict.ensures in
-    record { verdict_is = e; out_is = sym (leaves_refused _ _ _ (rw e at c.if-verdict-ne0.true)) }
+pub returns-in_err-check : goal.returns-in_err-check
+returns-in_err-check c = record { verdict_is = handed _ _ c.from_residual.ensures.1 ∙ c.in_err-check.ensures; out_is = left _ _ _ c.in_err-check.ensures }
 
 pub overflow_cast-tpc : goal.overflow_cast-tpc
 overflow_cast-tpc c =
-    let m = mapped _ _ _ _ _ _ (rw c.map_verdict-verdict.ensures at c.if-verdict-ne0.false) in
+    let m = mapped _ _ _ _ _ _ (number_0 (sym c.in_ok-check.ensures)) in
     omega (arith, m.fields.tpc_ok)
 
 pub returns : goal.returns
 returns c =
-    let e = c.map_verdict-verdict.ensures in
-    let z = rw e at c.if-verdict-ne0.false in
-    let h = (mapped _ _ _ _ _ _ z).head in
+    let h = (mapped _ _ _ _ _ _ (number_0 (sym c.in_ok-check.ensures))).head in
     record {
-      verdict_is = e;
-      out_is = c.put.ensures.out_is ∙ rw (sizes_pass _ _ _ _ h.format_ok h.ready) (sym (leaves_done _ _ _ z));
+      verdict_is = c.in_ok-check.ensures;
+      out_is = written _ _ c.in_ok-check.ensures (c.put.ensures.out_is ∙ rw (sizes_pass _ _ _ _ h.format_ok h.ready));
     }

@@ -22,16 +22,16 @@ pub slice_bounds-write_pilot-end : goal.slice_bounds-write_pilot-end
 slice_bounds-write_pilot-end c = omega (arith, sums (goal.at.slice_bounds-write_pilot-end c).Start)
 
 pub slice_bounds-copy-end : goal.slice_bounds-copy-end
-slice_bounds-copy-end c = omega (arith, sums (goal.at.slice_bounds-copy-end c).Start, c.out-1.given)
+slice_bounds-copy-end c = omega (arith, sums (goal.at.slice_bounds-copy-end c).Start)
 
 pub slice_bounds-copy-end-2 : goal.slice_bounds-copy-end-2
-slice_bounds-copy-end-2 c = omega (arith, sums (goal.at.slice_bounds-copy-end-2 c).Start, c.out-2-1.given, c.out-1.given)
+slice_bounds-copy-end-2 c = omega (arith, sums (goal.at.slice_bounds-copy-end-2 c).Start)
 
 pub slice_bounds-fill-end : goal.slice_bounds-fill-end
-slice_bounds-fill-end c = omega (arith, sums (goal.at.slice_bounds-fill-end c).Start, c.out-3-1.given, c.out-2-1.given, c.out-1.given)
+slice_bounds-fill-end c = omega (arith, sums (goal.at.slice_bounds-fill-end c).Start)
 
 pub shape_of-out : goal.shape_of-out
-shape_of-out c = omega (arith, c.out-4-1.given, c.out-3-1.given, c.out-2-1.given, c.out-1.given)
+shape_of-out c = omega (arith)
 
 pub returns : goal.returns
 returns c =

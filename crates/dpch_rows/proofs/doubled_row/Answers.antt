@@ -1,7 +1,7 @@
 -- `dpch_rows::doubled_row` meets its contract: digit k is one of pair k / 4 of the row. One test compares all 32 places, whatever the row's digits are.
 use mathlib.Core.Path.{◌≡◌, refl, ap, ◌∙◌}
 use mathlib.Core.List.{List}
-use Prim.Native.Nat.{ℕ, ◌+◌, ◌-◌, ◌*◌, ◌/◌, ◌%◌, ◌<◌}
+use Prim.Native.Nat.{ℕ, ◌+◌, ◌*◌, ◌/◌, ◌%◌, ◌<◌}
 use native.Mathlib.Omega.{arith}
 use lib.ListN.{length, get_or}
 use Rattle.run.specs.Fields.{joined}
@@ -21,7 +21,7 @@ unfolding pairs_twice pilot_row symbols_of joined
 doubled-long slot = refl
 
 pub loop-k-init : goal.loop-k-init
-loop-k-init c = (front_none (doubled-long _), omega arith)
+loop-k-init c = front_none (doubled-long _)
 
 pub loop-k-preserved : goal.loop-k-preserved
 loop-k-preserved c =
@@ -30,7 +30,7 @@ loop-k-preserved c =
     let read : get_or c.pilot_row-row.result (k / 4 * 2 + k % 2) 0 ≡ get_or (pairs_twice (pilot_row slot)) k 0 =
     ap (λ (row : List ℕ). get_or row (k / 4 * 2 + k % 2) 0) c.pilot_row-row.ensures ∙ digit-is slot k (omega arith)
     in
-    (front_store 0 c.loop-k.invariant.0 (omega (arith, front_length c.loop-k.invariant.0)) read, omega arith)
+    front_store 0 c.loop-k.invariant (omega (arith, front_length c.loop-k.invariant)) read
 
 pub returns : goal.returns
-returns c = front_all c.loop-k.invariant.0 (omega arith)
+returns c = front_all c.loop-k.invariant (omega arith)

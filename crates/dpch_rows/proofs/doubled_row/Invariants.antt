@@ -1,4 +1,3 @@
-use Prim.Native.Nat.{◌-◌, ◌≤◌}
 use lib.ListN.{replicate}
 use Rattle.run.proofs.Front.{Front}
 use Rattle.dpch.specs.Pilots.{pilot_row}
@@ -6,7 +5,4 @@ use Rattle.dpch.specs.Compressed.{pairs_twice}
 use Rattle.dpch_rows.proofs.doubled_row.Given as goal
 
 abbrev pub invariant-loop-k : goal.invariant-loop-k
-invariant-loop-k l = Front (pairs_twice (pilot_row l.slot)) (replicate 32 0) l.doubled l.k × (l.k ≤ 32)
-
-abbrev pub decreases-loop-k : goal.decreases-loop-k
-decreases-loop-k l = 32 - l.k
+invariant-loop-k l = Front (pairs_twice (pilot_row l.slot)) (replicate 32 0) l.doubled l.k

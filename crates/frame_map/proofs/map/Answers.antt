@@ -1,18 +1,16 @@
 -- `frame_map::map` meets its contract.
 use mathlib.Core.Path.{sym, ◌∙◌}
-use Rattle.run.proofs.Chain.{leaves_done, leaves_refused}
+use Rattle.run.proofs.Answers.{handed, left, written}
+use Rattle.run.proofs.Chain.{number_0}
 use Rattle.frame.proofs.Accept.{mapped}
 use Rattle.frame_map.proofs.map.Goals as goal
 
-pub returns-then-verdict-ne0 : goal.returns-then-verdict-ne0
-returns-then-verdict-ne0 c =
-    let e = c.map_verdict-verdict.ensures in
-    record { verdict_is = e; out_is = sym (leaves_refused _ _ _ (rw e at c.if-verdict-ne0.true)) }
+pub returns-in_err-check : goal.returns-in_err-check
+returns-in_err-check c =
+    record { verdict_is = handed _ _ c.from_residual.ensures.1 ∙ c.in_err-check.ensures; out_is = left _ _ _ c.in_err-check.ensures }
 
 pub write-requires : goal.write-requires
-write-requires c = (mapped _ _ _ _ _ (rw c.map_verdict-verdict.ensures at c.if-verdict-ne0.false)).room
+write-requires c = (mapped _ _ _ _ _ (number_0 (sym c.in_ok-check.ensures))).room
 
 pub returns : goal.returns
-returns c =
-    let e = c.map_verdict-verdict.ensures in
-    record { verdict_is = e; out_is = c.write.ensures ∙ sym (leaves_done _ _ _ (rw e at c.if-verdict-ne0.false)) }
+returns c = record { verdict_is = c.in_ok-check.ensures; out_is = written _ _ c.in_ok-check.ensures c.write.ensures }

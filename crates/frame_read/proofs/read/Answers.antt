@@ -1,28 +1,22 @@
 -- `frame_read::read` meets its contract.
 use mathlib.Core.Path.{sym, ◌∙◌}
-use Rattle.run.proofs.Chain.{leaves_done, leaves_refused}
+use Rattle.run.proofs.Answers.{handed, left, written}
+use Rattle.run.proofs.Chain.{number_0}
 use Rattle.frame.proofs.Accept.{accepted, accepted_bits}
 use Rattle.frame_read.proofs.read.Goals as goal
 
-pub returns-then-verdict-ne0 : goal.returns-then-verdict-ne0
-returns-then-verdict-ne0 c =
-    let e = c.read_verdict-verdict.ensures in
-    let n = rw e at c.if-verdict-ne0.true in
-    record { verdict_is = e; data_is = sym (leaves_refused _ _ _ n); tfci_is = sym (leaves_refused _ _ _ n); commands_is = sym (leaves_refused _ _ _ n) }
+pub returns-in_err-check : goal.returns-in_err-check
+returns-in_err-check c =
+    let e = c.in_err-check.ensures in
+    record { verdict_is = handed _ _ c.from_residual.ensures.1 ∙ e; data_is = left _ _ _ e; tfci_is = left _ _ _ e; commands_is = left _ _ _ e }
 
 pub take-requires : goal.take-requires
 take-requires c =
-    let a = accepted _ _ _ _ _ (rw c.read_verdict-verdict.ensures at c.if-verdict-ne0.false) in
+    let a = accepted _ _ _ _ _ (number_0 (sym c.in_ok-check.ensures)) in
     (a.room, accepted_bits _ _ _ _ _ a)
 
 pub returns : goal.returns
 returns c =
-    let e = c.read_verdict-verdict.ensures in
-    let z = rw e at c.if-verdict-ne0.false in
+    let e = c.in_ok-check.ensures in
     let t = c.take.ensures in
-    record {
-      verdict_is = e;
-      data_is = t.0 ∙ sym (leaves_done _ _ _ z);
-      tfci_is = t.1 ∙ sym (leaves_done _ _ _ z);
-      commands_is = t.2 ∙ sym (leaves_done _ _ _ z);
-    }
+    record { verdict_is = e; data_is = written _ _ e t.0; tfci_is = written _ _ e t.1; commands_is = written _ _ e t.2 }

@@ -1,39 +1,40 @@
 -- `hspdsch_read::first_difference` meets its contract: every stretch that is passed agrees.
-use mathlib.Core.Path.{refl}
-use Prim.Native.Nat.{◌-◌}
+use mathlib.Core.Path.{◌≡◌, subst}
+use Prim.Native.Nat.{ℕ, ◌+◌, ◌*◌}
 use native.Mathlib.Omega.{arith}
-use Rattle.run.proofs.First.{scan_start, scan_end}
+use borrow.Author.Count.{below_none}
+use lib.ListN.{length}
+use Rattle.run.specs.First.{Every, agree}
+use Rattle.hspdsch.specs.Rule.{coded}
+use Rattle.hspdsch.specs.Outcome.{flip}
+use Rattle.hspdsch.proofs.Laws.{coded_length}
 use Rattle.run.proofs.Lent.{part_length}
-use Rattle.hspdsch_read.proofs.Laws.{differs_here, agrees_here}
+use Rattle.hspdsch_read.proofs.Laws.{below_here, differs_here, agrees_here, none_differs}
 use Rattle.hspdsch_read.proofs.first_difference.Goals as goal
 
-pub loop-i-init : goal.loop-i-init
-loop-i-init c = (refl, scan_start)
+pub loop-k-init : goal.loop-k-init
+loop-k-init c = below_none _
 
-pub stretch_differs-j-requires : goal.stretch_differs-j-requires
-stretch_differs-j-requires c =
-    let head = c in
-    let start = head in
-    (part_length start.args.antenna1.now head.loop-i.i 64 (omega arith), part_length start.args.antenna2.now head.loop-i.i 64 (omega arith))
+pub stretch_differs-requires : goal.stretch_differs-requires
+stretch_differs-requires c = (part_length c.args.antenna1.now (64 * c.loop-k.k) 64 (omega arith), part_length c.args.antenna2.now (64 * c.loop-k.k) 64 (omega arith))
 
-pub returns-then-j-lt64 : goal.returns-then-j-lt64
-returns-then-j-lt64 c =
-    let head = c in
-    let start = head in
-    differs_here start.args.format start.args.antenna1.now start.args.antenna2.now start.requires.0 start.requires.1 head.loop-i.invariant.0 (omega arith)
-    head.loop-i.invariant.1.passed c.stretch_differs-j.ensures c.if-j-lt64.true
+pub overflow_add-result : goal.overflow_add-result
+overflow_add-result c =
+    let l =
+    below_here c.args.format c.args.antenna1.now c.args.antenna2.now c.requires.0 c.requires.1 {i = 64 * c.loop-k.k} (omega arith) (omega arith) c.loop-k.invariant c.stretch_differs.ensures c.in-Some.j c.in-Some.is in
+    omega (arith, l)
 
-pub loop-i-preserved : goal.loop-i-preserved
-loop-i-preserved c =
-    let head = c in
-    let start = head in (
-      omega arith,
-      record {
-        within = omega arith;
-        passed = agrees_here start.args.format start.args.antenna1.now start.args.antenna2.now start.requires.0 start.requires.1 head.loop-i.invariant.0 (omega arith)
-            head.loop-i.invariant.1.passed c.stretch_differs-j.ensures (omega arith);
-      },
-    )
+pub returns-in-Some : goal.returns-in-Some
+returns-in-Some c =
+    differs_here c.args.format c.args.antenna1.now c.args.antenna2.now c.requires.0 c.requires.1 (omega arith) (omega arith) c.loop-k.invariant c.stretch_differs.ensures c.in-Some.j c.in-Some.is
+
+pub loop-k-preserved : goal.loop-k-preserved
+loop-k-preserved c =
+    let step : 64 * c.loop-k.k + 64 ≡ 64 * (c.loop-k.k + 1) = omega arith in
+    subst (λ (n : ℕ). Every (agree (coded flip c.args.format c.args.antenna1.now) c.args.antenna2.now) n) step
+    (agrees_here c.args.format c.args.antenna1.now c.args.antenna2.now c.requires.0 c.requires.1 (omega arith) (omega arith) c.loop-k.invariant c.stretch_differs.ensures c.in_default.is)
 
 pub returns : goal.returns
-returns c = scan_end c.loop-i.invariant.1 (omega arith)
+returns c =
+    let all : 64 * c.loop-k.k ≡ length c.args.antenna1.now = omega arith in
+    none_differs (coded flip c.args.format c.args.antenna1.now) c.args.antenna2.now _ (coded_length flip c.args.antenna1.now (omega arith) c.args.format) c.requires.1 (rw all at c.loop-k.invariant)

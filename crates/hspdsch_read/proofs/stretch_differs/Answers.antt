@@ -4,6 +4,4 @@ use Rattle.hspdsch_read.proofs.Laws.{stretch_told}
 use Rattle.hspdsch_read.proofs.stretch_differs.Goals as goal
 
 pub returns : goal.returns
-returns c =
-    let start = c in
-    stretch_told start.args.format start.args.antenna1.now start.args.antenna2.now _ start.requires.0 start.requires.1 refl c.encode.ensures c.first_diff.ensures
+returns c = rw (stretch_told c.args.format c.args.antenna1.now _ c.requires.0 refl c.encode.ensures) at c.difference.ensures

@@ -1,33 +1,31 @@
 -- `job_run::run` meets its contract.
-use mathlib.Core.Path.{◌≡◌, ap}
+use mathlib.Core.Path.{◌≡◌, refl, ◌∙◌}
 use native.Mathlib.Omega.{arith}
-use lib.ListN.{get_or}
-use Rattle.kinds.specs.declared.Shape.{Shape}
-use Rattle.kinds.specs.Rule.{shape_of}
+use Rattle.kinds.proofs.ByKind.{size_is}
+use Rattle.run.specs.Verdicts.{leaves}
 use Rattle.job.specs.Rule.{size_in}
-use Rattle.job.proofs.Headed.{part_is, run_refused, run_headed, run_told}
+use Rattle.job.proofs.Headed.{part_is, run_left, run_headed, run_told, run_told_left}
 use Rattle.job_run.proofs.run.Goals as goal
+use Rattle.job_run.proofs.run.Goals.{After-shape_of-shape}
 
-pub returns-then-head-ne0 : goal.returns-then-head-ne0
-returns-then-head-ne0 c = run_refused _ _ _ _ c.run_head-head.ensures c.if-head-ne0.true
+size : (c : After-shape_of-shape) → c.shape_of-shape.result.size ≡ size_in c.args.window.now
+size c = size_is _ _ _ (c.shape_of-shape.ensures ∙ rw (c.byte_at-2.ensures, c.byte_at.ensures))
+
+pub returns-in_err-check_head : goal.returns-in_err-check_head
+returns-in_err-check_head c = run_left _ _ _ _ _ _ c.from_residual.ensures.1 c.in_err-check_head.ensures
 
 pub slice_bounds-record-end : goal.slice_bounds-record-end
-unfolding shape_of
 slice_bounds-record-end c =
-    let start = c in
-    let window = start.args.window.now in
-    let h = run_headed start.args.limit start.args.offset window start.args.line.now c.run_head-head.ensures c.if-head-ne0.false in
-    let shape : c.shape_of-shape.result ≡ shape_of (get_or window 0 0) (get_or window 1 0) = rw (c.shape_of-shape.ensures, c.byte_at-2.ensures, c.byte_at.ensures) in
-    let size : c.shape_of-shape.result.size ≡ size_in window = ap (λ (s : Shape). s.size) shape in
-    omega (arith, h.inside)
+    let h = run_headed c.args.limit c.args.offset c.args.window.now c.args.line.now c.in_ok-check_head.ensures refl in
+    omega (arith, size (goal.at.slice_bounds-record-end c).After-shape_of-shape, h.inside)
+
+pub returns-in_err-length : goal.returns-in_err-length
+returns-in_err-length c =
+    let s = size (goal.at.returns-in_err-length c).After-shape_of-shape in
+    run_told_left _ _ _ _ _ _ c.from_residual-in_err-length.ensures.1 c.in_ok-check_head.ensures s (rw (part_is _ s) at c.in_err-length.ensures)
 
 pub returns : goal.returns
-unfolding shape_of
+unfolding leaves
 returns c =
-    let start = c in
-    let window = start.args.window.now in
-    let head = c.run_head-head.ensures in
-    let ok = c.if-head-ne0.false in
-    let shape : c.shape_of-shape.result ≡ shape_of (get_or window 0 0) (get_or window 1 0) = rw (c.shape_of-shape.ensures, c.byte_at-2.ensures, c.byte_at.ensures) in
-    let size = ap (λ (s : Shape). s.size) shape in
-    run_told _ _ _ _ head ok size (rw (part_is _ size) at c.record-told.ensures) c.answer.ensures
+    let s = size (goal.at.returns c).After-shape_of-shape in
+    run_told _ _ _ _ c.in_ok-check_head.ensures refl s (rw (part_is _ s) at c.in_ok-length.ensures) refl

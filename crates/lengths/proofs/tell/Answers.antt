@@ -1,20 +1,17 @@
--- `lengths::tell` meets its contract: a run that is there is one of the four.
+-- `lengths::tell` meets its contract.
 use mathlib.Core.Path.{refl}
-use Rattle.lengths.proofs.Laws.{head_told, run_is, refused_told, length_told}
+use native.Mathlib.Omega.{arith}
+use Rattle.lengths.proofs.Laws.{run_refused, run_there, run_told}
 use Rattle.lengths.proofs.tell.Goals as goal
 
-pub returns-then-head-ne0 : goal.returns-then-head-ne0
-returns-then-head-ne0 c = head_told _ _ _ _ refl c.requires c.if-head-ne0.true
+pub returns-in_err-require : goal.returns-in_err-require
+returns-in_err-require c = run_refused _ _ _ _ c.from_residual.ensures.1 c.in_err-require.ensures
 
-pub returns-then-verdict-ne0 : goal.returns-then-verdict-ne0
-returns-then-verdict-ne0 c =
-    let few = c.requires in
-    refused_told _ _ _ _ refl few _ (run_is _ _ _ c.if-head-ne0.false c.unless-verdict.ensures) c.if-verdict-ne0.true
+pub bounds-lengths-run : goal.bounds-lengths-run
+bounds-lengths-run c = run_there _ _ c.in_ok-require.ensures
+
+pub offset_bounds-lengths-run : goal.offset_bounds-lengths-run
+offset_bounds-lengths-run c = let h = run_there _ _ c.in_ok-require.ensures in omega (arith, h)
 
 pub returns : goal.returns
-returns c =
-    let few = c.requires in
-    length_told _ _ _ _ refl few _ _
-    (run_is _ _ _ c.if-head-ne0.false c.unless-verdict.ensures)
-    c.if-verdict-ne0.false
-    c.nth.ensures
+returns c = run_told _ _ refl c.in_ok-require.ensures

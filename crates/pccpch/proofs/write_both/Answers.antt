@@ -6,5 +6,4 @@ use Rattle.pccpch.proofs.write_both.Goals as goal
 pub returns : goal.returns
 unfolding second_of
 returns c =
-    let first = c in
-    (first.write_first.ensures, c.write_frame.ensures ∙ ap frame_of first.code.ensures)
+    (c.write_first.ensures, c.write_frame.ensures ∙ ap frame_of c.code.ensures)

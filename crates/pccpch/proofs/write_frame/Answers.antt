@@ -1,6 +1,6 @@
 -- `pccpch::write_frame` meets its contract: each turn writes one slot of the local frame, which is copied whole at the end.
 use mathlib.Core.Path.{◌≡◌, sym, ap, ◌∙◌}
-use Prim.Native.Nat.{◌-◌, ◌*◌}
+use Prim.Native.Nat.{◌*◌}
 use native.Mathlib.Omega.{arith}
 use lib.ListN.{length, length-set}
 use lib.Seq.{length-take-le}
@@ -9,25 +9,21 @@ use Rattle.pccpch.proofs.Laws.{frame_length, frame_starts, slot_written, frame_e
 use Rattle.pccpch.proofs.write_frame.Goals as goal
 
 pub loop-slot-init : goal.loop-slot-init
-loop-slot-init c = (omega arith, frame_starts c.args.digits.now)
+loop-slot-init c = frame_starts c.args.digits.now
 
 pub slice_bounds-frame-end : goal.slice_bounds-frame-end
-slice_bounds-frame-end c = simp length-set (omega (arith, written_length _ c.loop-slot.invariant.1))
+slice_bounds-frame-end c = simp length-set (omega (arith, written_length _ c.loop-slot.invariant))
 
 pub loop-slot-preserved : goal.loop-slot-preserved
 loop-slot-preserved c =
-    let turn = c in
-    let start = turn in
-    (omega arith, slot_written _ start.requires.0 _ turn.loop-slot-test.true turn.loop-slot.invariant.1 c.copy.ensures)
+    slot_written _ c.requires.0 _ c.loop-slot-test.true c.loop-slot.invariant c.copy.ensures
 
 pub slice_bounds-copy-end-3 : goal.slice_bounds-copy-end-3
-slice_bounds-copy-end-3 c = sym (written_length _ c.loop-slot.invariant.1)
+slice_bounds-copy-end-3 c = sym (written_length _ c.loop-slot.invariant)
 
 pub returns : goal.returns
 returns c =
-    let head = c in
-    let start = head in
-    let all : 20 * head.loop-slot.slot ≡ 300 = omega arith in
-    let whole = frame_ends _ (rw all at head.loop-slot.invariant.1) in
-    let lent = length-take-le 300 start.args.antenna.now (omega arith) in
-    lent_whole start.args.antenna.now _ start.requires.1 ∙ c.copy-2.ensures ∙ over_whole _ _ (ap length whole ∙ frame_length _ ∙ sym lent) ∙ whole
+    let all : 20 * c.loop-slot.slot ≡ 300 = omega arith in
+    let whole = frame_ends _ (rw all at c.loop-slot.invariant) in
+    let lent = length-take-le 300 c.args.antenna.now (omega arith) in
+    lent_whole c.args.antenna.now _ c.requires.1 ∙ c.copy-2.ensures ∙ over_whole _ _ (ap length whole ∙ frame_length _ ∙ sym lent) ∙ whole

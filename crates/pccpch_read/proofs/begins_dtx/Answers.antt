@@ -1,19 +1,11 @@
 -- `pccpch_read::begins_dtx` meets its contract: a pass over the slots.
 use mathlib.Core.Path.{sym, ◌∙◌}
-use Prim.Native.Nat.{◌-◌}
-use native.Mathlib.Omega.{arith}
 use Rattle.run.proofs.Passing.{pass_start, pass_good, pass_bad, pass_end}
 use Rattle.pccpch_read.proofs.begins_dtx.Goals as goal
 use Rattle.pccpch_read.proofs.begins_dtx.Goals.{then-not-both_dtx, else-not-both_dtx}
 
 pub loop-slot-init : goal.loop-slot-init
 loop-slot-init c = pass_start
-
-pub bounds-frame-slot : goal.bounds-frame-slot
-bounds-frame-slot c = omega (arith, c.loop-slot-test.true, c.requires)
-
-pub bounds-frame-slot-in-loop-slot : goal.bounds-frame-slot-in-loop-slot
-bounds-frame-slot-in-loop-slot c = omega (arith, c.loop-slot-test.true, c.requires)
 
 pub loop-slot-preserved : goal.loop-slot-preserved
 loop-slot-preserved c =

@@ -1,10 +1,11 @@
 -- `pccpch_read::read` meets its contract: what is given is read at once, and all else goes through the checks in their order.
-use mathlib.Core.Path.{◌≡◌, ap, ◌∙◌, subst}
+use mathlib.Core.Path.{◌≡◌, sym, ap, ◌∙◌, subst}
 use mathlib.Core.List.{List}
 use Prim.Native.Nat.{ℕ}
 use lib.ListN.{length}
+use Rattle.run.specs.Answers.{verdict_of}
 use Rattle.pccpch.specs.Outcome.{Read}
-use Rattle.pccpch_read.proofs.Laws.{given_read}
+use Rattle.pccpch_read.proofs.Laws.{given_read, lengths_told}
 use borrow.Author.Rules.{rules}
 use Rattle.pccpch_read.proofs.read.Goals as goal
 use Rattle.pccpch_read.proofs.read.Goals.{then-lengths_fit+else-take_given, else-lengths_fit, Joined-lengths_fit}
@@ -15,13 +16,13 @@ kept c = elim c.if-lengths_fit.branch [ then-lengths_fit+else-take_given w ↦ w
 
 pub take_given-requires : goal.take_given-requires
 take_given-requires c =
-    let fit = c.lengths_fit.ensures c.if-lengths_fit.true in
-    (fit.0, fit.1, fit.2)
+    lengths_told (length c.args.antenna1.now) (length c.args.antenna2.now) (length c.args.«data».now) (sym c.lengths_fit.ensures ∙ c.if-lengths_fit.true)
 
 pub returns-then-take_given : goal.returns-then-take_given
 returns-then-take_given c =
-    let asked = c in
-    let fit = asked.lengths_fit.ensures asked.if-lengths_fit.true in
+    let fit =
+    lengths_told (length c.args.antenna1.now) (length c.args.antenna2.now) (length c.args.«data».now) (sym c.lengths_fit.ensures ∙ c.if-lengths_fit.true)
+    in
     given_read fit.2 (c.take_given.ensures.0 c.if-take_given.true)
 
 pub shape_of-data : goal.shape_of-data
@@ -31,6 +32,5 @@ shape_of-data c =
 
 pub returns : goal.returns
 returns c =
-    let start = c in
-    subst (λ (l : List ℕ). Read start.args.antenna1.now start.args.antenna2.now l c.read_checked.result c.read_checked.new.«data») (kept (goal.at.returns c).Joined-lengths_fit)
+    subst (λ (l : List ℕ). Read c.args.antenna1.now c.args.antenna2.now l (verdict_of c.read_checked.result) c.read_checked.new.«data») (kept (goal.at.returns c).Joined-lengths_fit)
     c.read_checked.ensures

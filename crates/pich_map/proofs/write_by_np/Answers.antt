@@ -4,10 +4,10 @@ use mathlib.Core.Path.{◌≡◌, refl, sym, ◌∙◌}
 use Rattle.pich.specs.Rule.{is_np}
 use Rattle.pich.proofs.Laws.{last_np}
 use Rattle.pich_map.proofs.write_by_np.Goals as goal
-use Rattle.pich_map.proofs.write_by_np.Goals.{After-write_frame-arg-in_default-1}
+use Rattle.pich_map.proofs.write_by_np.Goals.{In_default}
 
 -- the arm of all other numbers
-rest-np : (c : After-write_frame-arg-in_default-1) → c.args.np ≡ 144
+rest-np : (c : In_default) → c.args.np ≡ 144
 rest-np c =
     last_np _ c.requires.0 (λ e. grind arith) (λ e. grind arith) (λ e. grind arith)
 
@@ -25,7 +25,7 @@ write_frame-requires-in-72 c = let p = c.requires in (refl, p.1 ∙ c.in-72.is, 
 
 pub write_frame-requires-in_default : goal.write_frame-requires-in_default
 unfolding is_np
-write_frame-requires-in_default c = let p = c.requires in (refl, p.1 ∙ rest-np (goal.at.write_frame-requires-in_default c).After-write_frame-arg-in_default-1, p.2)
+write_frame-requires-in_default c = let p = c.requires in (refl, p.1 ∙ rest-np (goal.at.write_frame-requires-in_default c).In_default, p.2)
 
 pub returns-in-18 : goal.returns-in-18
 returns-in-18 c = c.write_frame.ensures ∙ rw (sym c.in-18.is)
@@ -37,4 +37,4 @@ pub returns-in-72 : goal.returns-in-72
 returns-in-72 c = c.write_frame-in-72.ensures ∙ rw (sym c.in-72.is)
 
 pub returns-in_default : goal.returns-in_default
-returns-in_default c = c.write_frame-in_default.ensures ∙ rw (sym (rest-np (goal.at.returns-in_default c).After-write_frame-arg-in_default-1))
+returns-in_default c = c.write_frame-in_default.ensures ∙ rw (sym (rest-np (goal.at.returns-in_default c).In_default))

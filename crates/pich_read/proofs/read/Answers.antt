@@ -1,36 +1,8 @@
 -- `pich_read::read` meets its contract: what is given is read at once, and all else goes through the checks in their order.
-use mathlib.Core.Path.{◌≡◌, ap, ◌∙◌, subst}
-use mathlib.Core.List.{List}
-use Prim.Native.Nat.{ℕ}
-use lib.ListN.{length}
-use Rattle.pich.specs.Outcome.{Read}
 use Rattle.pich_read.proofs.Laws.{given_read}
-use borrow.Author.Rules.{rules}
 use Rattle.pich_read.proofs.read.Goals as goal
-use Rattle.pich_read.proofs.read.Goals.{then-lengths_fit+else-take_given, else-lengths_fit, Joined-lengths_fit}
-
--- what was not given is as it was
-kept : (c : Joined-lengths_fit) → c.if-lengths_fit.indicators ≡ c.args.indicators.now
-kept c = elim c.if-lengths_fit.branch [ then-lengths_fit+else-take_given w ↦ w.indicators-is ∙ w.take_given.ensures.1 w.if-take_given.false | else-lengths_fit w ↦ w.indicators-is ]
-
-pub take_given-requires : goal.take_given-requires
-take_given-requires c =
-    let fit = c.lengths_fit.ensures c.if-lengths_fit.true in
-    (fit.0, fit.1, fit.2)
 
 pub returns-then-take_given : goal.returns-then-take_given
 returns-then-take_given c =
-    let asked = c in
-    let fit = asked.lengths_fit.ensures asked.if-lengths_fit.true in
+    let fit = c.lengths_fit.ensures c.if-lengths_fit.true in
     given_read fit.0 fit.1 fit.2 (c.take_given.ensures.0 c.if-take_given.true)
-
-pub shape_of-indicators : goal.shape_of-indicators
-shape_of-indicators c =
-    let same : length c.read_checked.new.indicators ≡ length c.if-lengths_fit.indicators = search rules in
-    same ∙ ap length (kept (goal.at.shape_of-indicators c).Joined-lengths_fit)
-
-pub returns : goal.returns
-returns c =
-    let start = c in
-    subst (λ (l : List ℕ). Read start.args.np start.args.frame.now l c.read_checked.result c.read_checked.new.indicators) (kept (goal.at.returns c).Joined-lengths_fit)
-    c.read_checked.ensures

@@ -19,19 +19,19 @@ told : (s : List ℤ) (low high : ℤ) (k : ℕ) {r b : Bool} → mag (get_or s 
     → r ≡ between low high (to_z w32 (of_z w32 (get_or s k (pos 0)))) → r ≡ b → in_range low high s k ≡ b
 told s low high k h e f = ap (between low high) (sym (to_z-of_z {w = w32} (record { sfits = h }))) ∙ sym e ∙ f
 
-pub loop-k-init : goal.loop-k-init
-loop-k-init c = pass_start
+pub loop-x-init : goal.loop-x-init
+loop-x-init c = pass_start
 
-pub loop-k-preserved : goal.loop-k-preserved
-loop-k-preserved c =
+pub loop-x-preserved : goal.loop-x-preserved
+loop-x-preserved c =
     let head = c in
-    let test = c.loop-k-test.true in
+    let test = c.loop-x-test.true in
     let s = head.args.s.now in
     let f = c.lies-arg-1.given in
     let e = c.lies.ensures in
-    elim c.if-not-lies.branch [ then-not-lies w ↦ rw w.good-is (pass_bad head.loop-k.invariant test (told s _ _ head.loop-k.k f e w.if-not-lies.true)) | else-not-lies w ↦ rw w.good-is (pass_good head.loop-k.invariant test (told s _ _ head.loop-k.k f e w.if-not-lies.false)) ]
+    elim c.if-not-lies.branch [ then-not-lies w ↦ rw w.good-is (pass_bad head.loop-x.invariant test (told s _ _ head.loop-x.x-index f e w.if-not-lies.true)) | else-not-lies w ↦ rw w.good-is (pass_good head.loop-x.invariant test (told s _ _ head.loop-x.x-index f e w.if-not-lies.false)) ]
 
 pub returns : goal.returns
 returns c =
     let f = c.ranges in
-    rw (← to_z-of_z {w = w32} f.low, ← to_z-of_z {w = w32} f.high) (pass_end c.loop-k.invariant c.loop-k-test.false)
+    rw (← to_z-of_z {w = w32} f.low, ← to_z-of_z {w = w32} f.high) (pass_end c.loop-x.invariant c.loop-x-test.false)

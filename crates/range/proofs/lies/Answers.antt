@@ -1,17 +1,12 @@
 -- `range::lies` meets its contract.
+use mathlib.Core.Path.{refl}
 use mir.Syntax.{w32}
 use mir.Facts.{to_z-of_z}
 use Rattle.run.specs.Ranges.{between}
 use Rattle.range.proofs.lies.Goals as goal
 
-pub returns-then-low-x : goal.returns-then-low-x
+pub returns : goal.returns
 unfolding between
-returns-then-low-x c =
+returns c =
     let f = c.ranges in
-    rw (to_z-of_z {w = w32} f.x, to_z-of_z {w = w32} f.high, rw (to_z-of_z {w = w32} f.x, to_z-of_z {w = w32} f.low) at c.if-low-x.true)
-
-pub returns-else-low-x : goal.returns-else-low-x
-unfolding between
-returns-else-low-x c =
-    let f = c.ranges in
-    rw (rw (to_z-of_z {w = w32} f.x, to_z-of_z {w = w32} f.low) at c.if-low-x.false)
+    rw (to_z-of_z {w = w32} f.x, to_z-of_z {w = w32} f.low, to_z-of_z {w = w32} f.high) refl

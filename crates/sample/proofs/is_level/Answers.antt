@@ -1,4 +1,5 @@
 -- `sample::is_level` meets its contract: the two tests are those of `is_level`, and the two literals are its bounds.
+use mathlib.Core.Path.{◌∙◌}
 use lib.Ieee.{of_bits, le}
 use Rattle.sample.specs.Rule.{lowest, highest, is_level}
 use Rattle.sample.proofs.Laws.{both_tests, first_fails}
@@ -14,4 +15,4 @@ pub returns-else-x : goal.returns-else-x
 unfolding is_level of_bits
 returns-else-x c =
     let x = c.args.x in
-    first_fails (le lowest x) (le x highest) c.if-x.false
+    c.if-x.false ∙ first_fails (le lowest x) (le x highest) c.if-x.false

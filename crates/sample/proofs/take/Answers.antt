@@ -1,46 +1,37 @@
--- `sample::take` meets its contract: +0, +0 where the verdict refuses, else the part of each value.
+-- `sample::take` meets its contract: the part of each value where no check refuses.
 use mathlib.Core.Path.{◌≡◌, sym, ap, ◌∙◌}
-use lib.Ieee.{of_bits}
 use mir.Syntax.{w64}
 use mir.ValLaws.{to_z-of_z}
-use Rattle.run.proofs.Chain.{leaves_done, leaves_refused}
+use Rattle.run.specs.Verdicts.{done}
+use Rattle.run.proofs.Answers.{written}
+use Rattle.run.proofs.Chain.{number_0}
 use Rattle.sample.specs.Rule.{is_value}
 use Rattle.sample.specs.Outcome.{take_verdict}
-use Rattle.sample.proofs.Laws.{taken, taken_done}
+use Rattle.sample.proofs.Laws.{taken, refused_take}
 use Rattle.sample.proofs.take.Goals as goal
-use Rattle.sample.proofs.take.Goals.{After-take_verdict-verdict}
+use Rattle.sample.proofs.take.Goals.{In_ok-check}
 
--- the verdict is of the values themselves, which the machine reads back from their bits
-told : (c : After-take_verdict-verdict)
-    → c.take_verdict-verdict.result ≡ take_verdict c.args.i c.args.q c.args.setting c.args.antenna
-told c =
-    let s = c in
-    rw (to_z-of_z w64 s.args.i s.ranges.i, to_z-of_z w64 s.args.q s.ranges.q) at c.take_verdict-verdict.ensures
+-- the checks are of the values themselves, which the machine reads back from their bits
+told : (c : In_ok-check) → done ≡ take_verdict c.args.i c.args.q c.args.setting c.args.antenna
+told c = rw (to_z-of_z w64 c.args.i c.ranges.i, to_z-of_z w64 c.args.q c.ranges.q) at c.in_ok-check.ensures
 
-pub returns-then-verdict-ne0 : goal.returns-then-verdict-ne0
-unfolding of_bits
-returns-then-verdict-ne0 c =
-    let e = told (goal.at.returns-then-verdict-ne0 c).After-take_verdict-verdict in
-    let n = rw e at c.if-verdict-ne0.true in
-    record { verdict_is = e; inphase_is = sym (leaves_refused _ _ _ n); quadrature_is = sym (leaves_refused _ _ _ n) }
+pub returns-in_err-check : goal.returns-in_err-check
+returns-in_err-check c =
+    refused_take _ _ c.from_residual.ensures.1 (rw (to_z-of_z w64 c.args.i c.ranges.i, to_z-of_z w64 c.args.q c.ranges.q) at c.in_err-check.ensures)
 
 pub part-requires : goal.part-requires
 part-requires c =
-    let s = c in
-    ap is_value (to_z-of_z w64 s.args.i s.ranges.i) ∙ (taken _ _ _ _ (rw (told (goal.at.part-requires c).After-take_verdict-verdict) at c.if-verdict-ne0.false)).i_ok
+    ap is_value (to_z-of_z w64 c.args.i c.ranges.i) ∙ (taken _ _ _ _ (number_0 (sym (told (goal.at.part-requires c).In_ok-check)))).i_ok
 
 pub part-requires-2 : goal.part-requires-2
 part-requires-2 c =
-    let s = c in
-    ap is_value (to_z-of_z w64 s.args.q s.ranges.q) ∙ (taken _ _ _ _ (rw (told (goal.at.part-requires-2 c).After-take_verdict-verdict) at c.if-verdict-ne0.false)).q_ok
+    ap is_value (to_z-of_z w64 c.args.q c.ranges.q) ∙ (taken _ _ _ _ (number_0 (sym (told (goal.at.part-requires-2 c).In_ok-check)))).q_ok
 
 pub returns : goal.returns
 returns c =
-    let s = c in
-    let e = told (goal.at.returns c).After-take_verdict-verdict in
-    let n = rw e at c.if-verdict-ne0.false in
+    let e = told (goal.at.returns c).In_ok-check in
     record {
-      verdict_is = taken_done _ _ _ _ n;
-      inphase_is = rw (to_z-of_z w64 s.args.i s.ranges.i) at c.part.ensures ∙ sym (leaves_done _ _ _ n);
-      quadrature_is = rw (to_z-of_z w64 s.args.q s.ranges.q) at c.part-2.ensures ∙ sym (leaves_done _ _ _ n);
+      verdict_is = e;
+      inphase_is = written _ _ e (rw (to_z-of_z w64 c.args.i c.ranges.i) at c.part.ensures);
+      quadrature_is = written _ _ e (rw (to_z-of_z w64 c.args.q c.ranges.q) at c.part-2.ensures);
     }

@@ -5,19 +5,18 @@ use borrow.Author.Count.{below_none}
 use lib.ListN.{get_or}
 use Rattle.run.proofs.First.{raised}
 use Rattle.scan.proofs.highest.Goals as goal
-use Rattle.scan.proofs.highest.Goals.{then-high-s, else-high-s}
+use Rattle.scan.proofs.highest.Goals.{then-high-digit, else-high-digit}
 
-pub loop-i-init : goal.loop-i-init
-loop-i-init c = (omega arith, below_none _)
+pub loop-digit-init : goal.loop-digit-init
+loop-digit-init c = below_none _
 
-pub loop-i-preserved : goal.loop-i-preserved
-loop-i-preserved c =
-    let head = c in
-    let s = head.args.s.now in
-    let above : (head.loop-i.high ≤ c.if-high-s.high) × (get_or s head.loop-i.i 0 ≤ c.if-high-s.high) =
-    elim c.if-high-s.branch [ then-high-s w ↦ omega arith | else-high-s w ↦ omega arith ]
+pub loop-digit-preserved : goal.loop-digit-preserved
+loop-digit-preserved c =
+    let s = c.args.s.now in
+    let above : (c.loop-digit.high ≤ c.if-high-digit.high) × (get_or s c.loop-digit.digit-index 0 ≤ c.if-high-digit.high) =
+    elim c.if-high-digit.branch [ then-high-digit w ↦ omega arith | else-high-digit w ↦ omega arith ]
     in
-    (omega arith, raised s _ _ _ head.loop-i.invariant.1 above)
+    raised s _ _ _ c.loop-digit.invariant above
 
 pub returns : goal.returns
-returns c = λ k h. c.loop-i.invariant.1 k (omega arith)
+returns c = λ k h. c.loop-digit.invariant k (omega arith)

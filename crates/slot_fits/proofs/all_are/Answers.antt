@@ -1,5 +1,4 @@
 -- `slot_fits::all_are` meets its contract: a pass over the places at the test `is_at v`.
-use Prim.Native.Nat.{◌-◌}
 use borrow.Author.Tests.{eq-eqb, ne_eqb}
 use Rattle.run.proofs.Passing.{pass_start, pass_good, pass_bad, pass_end}
 use Rattle.slot_fits.proofs.all_are.Goals as goal

@@ -28,8 +28,8 @@ overflow_add-e c = pilot_counts _ c.requires.0.sound
 pub slice_bounds-is_pilot-end : goal.slice_bounds-is_pilot-end
 slice_bounds-is_pilot-end c = pilot_ends _ c.requires.0.sound c.requires.0.slot_ok
 
-pub is_pilot-last-requires : goal.is_pilot-last-requires
-is_pilot-last-requires c =
+pub is_pilot-requires : goal.is_pilot-requires
+is_pilot-requires c =
     let a = c.args in
     rw (lent_long a.f a.xs.now 4 _ _ (lit< tt) (sym (start_pilot a.f)) refl c.requires.0) c.requires.1
 
@@ -46,8 +46,8 @@ returns c =
     let f = a.f in
     let xs = a.xs.now in
     let w = c.requires.0 in
-    both_fit _ _ c.both.ensures (each_fits _ _ _ _ (lit< tt) c.are_digits.ensures)
-    (both_fit _ _ c.both-commands.ensures (field_told f xs 1 _ _ (lit< tt) (sym (start_tpc f)) refl _ _ like_first (lit< tt) c.is_command.ensures)
-    (both_fit _ _ c.both-kinds.ensures (field_told f xs 2 _ _ (lit< tt) (sym (start_tfci f)) refl _ _ tfci_stands (lit< tt) c.is_tfci.ensures)
+    both_fit _ _ refl (each_fits _ _ _ _ (lit< tt) c.are_digits.ensures)
+    (both_fit _ _ refl (field_told f xs 1 _ _ (lit< tt) (sym (start_tpc f)) refl _ _ like_first (lit< tt) c.is_command.ensures)
+    (both_fit _ _ refl (field_told f xs 2 _ _ (lit< tt) (sym (start_tfci f)) refl _ _ tfci_stands (lit< tt) c.is_tfci.ensures)
     (field_told f xs 4 _ _ (lit< tt) (sym (start_pilot f)) refl _ _ (λ (s : List ℕ). agree s (pilot_for f.kind f.pilot a.slot)) (lit< tt)
-    (pilot_lent f xs 4 _ _ (lit< tt) (sym (start_pilot f)) refl w a.slot c.is_pilot-last.ensures))))
+    (pilot_lent f xs 4 _ _ (lit< tt) (sym (start_pilot f)) refl w a.slot c.is_pilot.ensures))))

@@ -1,24 +1,11 @@
 -- `slot_fits::row_fits` meets its contract.
-use mathlib.Core.Path.{sym, ap, ◌∙◌}
-use borrow.Author.Tests.{ne_eqb}
-use lib.Dec.{eqb}
-use Rattle.run.specs.declared.Verdict.{Verdict}
-use Rattle.run.specs.Verdicts.{or_else, unless}
-use Rattle.slot.specs.Outcome.{part_verdict}
-use Rattle.slot.proofs.Laws.{sound_row, part_whole}
+use mathlib.Core.Path.{◌∙◌}
+use Rattle.slot.proofs.Laws.{sound_row}
 use Rattle.slot_fits.proofs.Laws.{pilot_width}
 use Rattle.slot_fits.proofs.row_fits.Goals as goal
 
-pub returns-then-xs-f : goal.returns-then-xs-f
-unfolding part_verdict or_else unless
-returns-then-xs-f c = rw (ne_eqb _ _ (rw c.format_in-f.ensures at c.if-xs-f.true))
-
-pub fields_fit-requires : goal.fields_fit-requires
-fields_fit-requires c =
-    let e = c.format_in-f.ensures in
-    rw e (record { sound = sound_row _ _; slot_ok = rw e at c.if-xs-f.false }, pilot_width _ _)
+pub is_slot-requires : goal.is_slot-requires
+is_slot-requires c = rw c.format_in.ensures (sound_row _ _, pilot_width _ _)
 
 pub returns : goal.returns
-returns c =
-    let e = c.format_in-f.ensures in
-    c.fields_fit.ensures ∙ rw e (sym (ap (λ (v : Verdict). eqb v.number 0) (part_whole _ _ _ 0 (rw e at c.if-xs-f.false))))
+returns c = c.is_slot.ensures ∙ rw c.format_in.ensures

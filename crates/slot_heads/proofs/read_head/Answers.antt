@@ -7,4 +7,4 @@ pub returns : goal.returns
 unfolding read_head
 returns c =
     let s = c.sizes_of-s.ensures in
-    c.slot_head.ensures ∙ rw (s.data_is, s.tfci_is, s.slot_is)
+    c.check_slot_head.ensures ∙ rw (s.data_is, s.tfci_is, s.slot_is)

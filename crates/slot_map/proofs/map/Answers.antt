@@ -1,25 +1,26 @@
 -- `slot_map::map` meets its contract.
 use mathlib.Core.Path.{sym, ◌∙◌}
 use native.Mathlib.Omega.{arith}
-use Rattle.run.proofs.Chain.{leaves_done, leaves_refused}
-use Rattle.slot.proofs.Accept.{mapped}
+use Rattle.run.proofs.Answers.{handed, left, written}
+use Rattle.run.proofs.Chain.{leaves_done, number_0}
+use Rattle.slot.proofs.Accept.{mapped, map_head_pass}
 use Rattle.slot_map.proofs.map.Goals as goal
 
-pub returns-then-verdict-ne0 : goal.returns-then-verdict-ne0
-returns-then-verdict-ne0 c =
-    let e = c.map_verdict-verdict.ensures in
-    record { verdict_is = e; out_is = sym (leaves_refused _ _ _ (rw e at c.if-verdict-ne0.true)) }
+pub returns-in_err-check : goal.returns-in_err-check
+returns-in_err-check c =
+    record { verdict_is = handed _ _ c.from_residual.ensures.1 ∙ c.in_err-check.ensures; out_is = left _ _ _ c.in_err-check.ensures }
 
 pub overflow_cast-tpc : goal.overflow_cast-tpc
 overflow_cast-tpc c =
-    let m = mapped _ _ _ _ _ _ (rw c.map_verdict-verdict.ensures at c.if-verdict-ne0.false) in
+    let m = mapped _ _ _ _ _ _ (number_0 (sym c.in_ok-check.ensures)) in
     omega (arith, m.fields.tpc_ok)
 
 pub returns : goal.returns
 returns c =
-    let e = c.map_verdict-verdict.ensures in
-    let z = rw e at c.if-verdict-ne0.false in
+    let m = mapped _ _ _ _ _ _ (number_0 (sym c.in_ok-check.ensures)) in
+    let h = m.head in
+    let pass = map_head_pass _ _ _ _ _ h.format_ok h.slot_ok h.ready.data_ok h.ready.tfci_ok h.ready.slot_ok in
     record {
-      verdict_is = e;
-      out_is = c.put.ensures.out_is ∙ leaves_done _ _ _ (mapped _ _ _ _ _ _ z).head_done ∙ sym (leaves_done _ _ _ z);
+      verdict_is = c.put.ensures.verdict_is ∙ pass ∙ c.in_ok-check.ensures;
+      out_is = written _ _ c.in_ok-check.ensures (c.put.ensures.out_is ∙ leaves_done _ _ _ m.head_done);
     }

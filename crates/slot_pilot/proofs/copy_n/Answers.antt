@@ -1,26 +1,17 @@
--- `slot_pilot::copy_n` meets its contract: the laws of writing from the front at one run over the other.
-use mathlib.Core.Path.{sym}
+-- `slot_pilot::copy_n` meets its contract: the field is all written.
+use mathlib.Core.Path.{◌≡◌, sym, ◌∙◌}
+use mathlib.Core.List.{List, append-nil}
+use Prim.Native.Nat.{ℕ, ◌≤◌}
 use native.Mathlib.Omega.{arith}
-use Rattle.run.proofs.Front.{front_none, front_length, front_store, front_end}
-use Rattle.run.proofs.Over.{over_length, over_at, over_rest}
+use lib.ListN.{length, take, drop_of_length-le}
+use Rattle.run.specs.Written.{over}
 use Rattle.slot_pilot.proofs.copy_n.Goals as goal
 
-pub loop-i-init : goal.loop-i-init
-loop-i-init c = (front_none (over_length _ _), omega arith)
-
-pub bounds-dst-i : goal.bounds-dst-i
-bounds-dst-i c = omega (arith, front_length c.loop-i.invariant.0)
-
-pub loop-i-preserved : goal.loop-i-preserved
-loop-i-preserved c =
-    let head = c in
-    (front_store 0 head.loop-i.invariant.0 (omega (arith, front_length head.loop-i.invariant.0)) (sym (over_at _ _ _ 0 (omega arith))), omega arith)
-
-pub shape_of-dst : goal.shape_of-dst
-shape_of-dst c = front_length c.loop-i.invariant.0
+all-written : (n : ℕ) (dst src : List ℕ) → length dst ≡ n → n ≤ length src → take n src ≡ over src dst
+unfolding over
+all-written n dst src e h =
+    let short : length dst ≤ length src = omega arith in
+    rw (e, drop_of_length-le dst short) (sym (append-nil (take n src)))
 
 pub returns : goal.returns
-returns c =
-    let head = c in
-    let start = head in
-    front_end head.loop-i.invariant.0 (over_rest start.args.src.now start.args.dst.now head.loop-i.i (omega arith))
+returns c = c.copy_from_slice.ensures.after ∙ all-written _ _ _ c.requires.0 c.requires.1

@@ -1,8 +1,8 @@
 -- `slot_put::write` meets its contract: five parts of the slot's run, lent one after the other.
-use mathlib.Core.Path.{◌∙◌}
+use native.Mathlib.Omega.{arith}
 use Rattle.run.proofs.Lent.{rest_of}
 use Rattle.slot.proofs.Laws.{all_written}
-use Rattle.slot.proofs.Ends.{tpc_counts, tfci_counts, data2_counts, pilot_counts, data1_ends, tpc_ends, tfci_ends, data2_ends, pilot_ends}
+use Rattle.slot.proofs.Ends.{whole, tpc_counts, tfci_counts, data2_counts, pilot_counts}
 use Rattle.slot_put.proofs.write.Goals as goal
 
 pub overflow_add-b : goal.overflow_add-b
@@ -18,32 +18,22 @@ pub overflow_add-e : goal.overflow_add-e
 overflow_add-e c = pilot_counts _ c.requires.sound
 
 pub slice_bounds-copy-end : goal.slice_bounds-copy-end
-slice_bounds-copy-end c =
-    let start = c in
-    data1_ends _ start.requires.sound start.requires.slot_ok
+slice_bounds-copy-end c = omega (arith, whole c.args.f c.requires.sound, c.requires.slot_ok)
 
 pub slice_bounds-fill-end : goal.slice_bounds-fill-end
-slice_bounds-fill-end c =
-    let start = c in
-    tpc_ends _ start.requires.sound (c.out-1.given.1 ∙ start.requires.slot_ok)
+slice_bounds-fill-end c = omega (arith, whole c.args.f c.requires.sound, c.requires.slot_ok)
 
 pub slice_bounds-copy-end-2 : goal.slice_bounds-copy-end-2
-slice_bounds-copy-end-2 c =
-    let start = c in
-    tfci_ends _ start.requires.sound (c.out-2-1.given.1 ∙ c.out-1.given.1 ∙ start.requires.slot_ok)
+slice_bounds-copy-end-2 c = omega (arith, whole c.args.f c.requires.sound, c.requires.slot_ok)
 
 pub slice_bounds-copy-end-3 : goal.slice_bounds-copy-end-3
-slice_bounds-copy-end-3 c =
-    let start = c in
-    data2_ends _ start.requires.sound (c.out-3-1.given.1 ∙ c.out-2-1.given.1 ∙ c.out-1.given.1 ∙ start.requires.slot_ok)
+slice_bounds-copy-end-3 c = omega (arith, whole c.args.f c.requires.sound, c.requires.slot_ok)
 
 pub slice_bounds-write_pilot-end : goal.slice_bounds-write_pilot-end
-slice_bounds-write_pilot-end c =
-    let start = c in
-    pilot_ends _ start.requires.sound (c.out-4-1.given.1 ∙ c.out-3-1.given.1 ∙ c.out-2-1.given.1 ∙ c.out-1.given.1 ∙ start.requires.slot_ok)
+slice_bounds-write_pilot-end c = omega (arith, whole c.args.f c.requires.sound, c.requires.slot_ok)
 
 pub shape_of-out : goal.shape_of-out
-shape_of-out c = c.out-5-1.given.1 ∙ c.out-4-1.given.1 ∙ c.out-3-1.given.1 ∙ c.out-2-1.given.1 ∙ c.out-1.given.1
+shape_of-out c = omega arith
 
 pub returns : goal.returns
 returns c =

@@ -5,29 +5,19 @@ use Rattle.slotline.proofs.Laws.{header_inside}
 use Rattle.slotline.proofs.Spending.{spent_of_more, within_then}
 use Rattle.slotline.proofs.print.Goals as goal
 
-pub refuse-requires : goal.refuse-requires
-refuse-requires g c = (
-  record {
-    cut = header_inside c.args.filled c.args.window.now c.open-opened.ensures;
-    inside = c.requires.2;
-    bounded = omega (arith, c.unread_after-unread.ensures);
-    waits = omega (arith, prints_fit c.open-opened.ensures.prints, c.open-opened.auto.line, c.requires.1);
-  },
-  c.open-opened.auto.line ∙ c.requires.1,
-)
-
 pub records-requires : goal.records-requires
-records-requires g c = (
-  record {
-    cut = header_inside c.args.filled c.args.window.now c.open-opened.ensures;
-    inside = c.requires.2;
-    bounded = omega (arith, c.unread_after-unread.ensures);
-    waits = omega (arith, prints_fit c.open-opened.ensures.prints, c.open-opened.auto.line, c.requires.1);
-  },
-  c.requires.0,
-  c.open-opened.auto.line ∙ c.requires.1,
-)
+records-requires g c =
+    let o = rw c.in-Ok.is at c.open.ensures in (
+      record {
+        cut = header_inside c.args.filled c.args.window.now o;
+        inside = c.requires.2;
+        bounded = omega (arith, c.unread_after.ensures);
+        waits = omega (arith, prints_fit o.prints, c.open.auto.line, c.requires.1);
+      },
+      c.requires.0,
+      c.open.auto.line ∙ c.requires.1,
+    )
 
-pub returns-clause-limit : goal.returns-clause-limit
-returns-clause-limit g c =
-    within_then _ _ (spent_of_more c.in_ok-last.ensures.limit (omega (arith, c.unread_after-unread.ensures))) c.finish.ensures.limit
+pub returns-in_ok-last-in-Ok-clause-limit : goal.returns-in_ok-last-in-Ok-clause-limit
+returns-in_ok-last-in-Ok-clause-limit g c =
+    within_then _ _ (spent_of_more c.in_ok-last-in-Ok.ensures.limit (omega (arith, c.unread_after.ensures))) c.finish.ensures.limit

@@ -6,20 +6,22 @@ use Rattle.slotline.proofs.step.Goals as goal
 
 pub overflow_add-result : goal.overflow_add-result
 overflow_add-result c =
-    let size = record_inside c.args.s.at c.args.s.filled c.args.window.now c.run-ran.ensures in
-    omega (arith, c.requires)
+    let size = record_inside c.args.s.at c.args.s.filled c.args.window.now (rw c.in-Ok.is at c.run.ensures) in
+    omega (arith, size, c.requires)
 
-pub overflow_add-result-2 : goal.overflow_add-result-2
-overflow_add-result-2 c =
-    let line = part_fits c.args.s.waiting (length c.args.out.now) c.args.out.now _ _ (prints_fit c.run-ran.ensures.prints) c.run-ran.auto.line (omega (arith, c.requires)) (omega (arith, c.requires)) in
-    omega (arith, c.requires)
+pub overflow_add-result-in-Ok : goal.overflow_add-result-in-Ok
+overflow_add-result-in-Ok c =
+    let r = rw c.in-Ok.is at c.run.ensures in
+    let line = part_fits c.args.s.waiting (length c.args.out.now) c.args.out.now _ _ (prints_fit r.prints) c.run.auto.line (omega (arith, c.requires)) (omega (arith, c.requires)) in
+    omega (arith, line, c.requires)
 
-pub returns-clause-turned : goal.returns-clause-turned
-returns-clause-turned c =
+pub returns-in-Ok-clause-turned : goal.returns-in-Ok-clause-turned
+returns-in-Ok-clause-turned c =
     let sound = c.requires.0 in
-    let size = record_inside c.args.s.at c.args.s.filled c.args.window.now c.run-ran.ensures in
-    let line = part_fits c.args.s.waiting (length c.args.out.now) c.args.out.now _ _ (prints_fit c.run-ran.ensures.prints) c.run-ran.auto.line (omega (arith, c.requires)) (omega (arith, c.requires)) in
+    let r = rw c.in-Ok.is at c.run.ensures in
+    let size = record_inside c.args.s.at c.args.s.filled c.args.window.now r in
+    let line = part_fits c.args.s.waiting (length c.args.out.now) c.args.out.now _ _ (prints_fit r.prints) c.run.auto.line (omega (arith, c.requires)) (omega (arith, c.requires)) in
     record {
-      sound = record { cut = omega arith; inside = sound.inside; bounded = sound.bounded; waits = omega (arith, c.requires.2) };
+      sound = record { cut = omega (arith, size, sound.cut); inside = sound.inside; bounded = sound.bounded; waits = omega (arith, line, c.requires.2) };
       less = omega (arith, c.requires.3);
     }

@@ -7,4 +7,4 @@ use Rattle.slt_aich.proofs.slt_aich_map.Goals as goal
 pub returns : goal.returns
 returns c =
     let m = c.map.ensures in
-    record { answer_is = fitted 0 c.pack.ensures m.verdict_is (packs.map_narrow _ _) (lit< tt); values_is = m.values_is }
+    record { answer_is = fitted 0 c.done.ensures m.verdict_is (packs.map_narrow _ _) (lit< tt); values_is = m.values_is }

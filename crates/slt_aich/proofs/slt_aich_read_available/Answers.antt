@@ -7,4 +7,4 @@ use Rattle.slt_aich.proofs.slt_aich_read_available.Goals as goal
 pub returns : goal.returns
 returns c =
     let m = c.read_available.ensures in
-    record { answer_is = fitted 0 c.pack.ensures m.verdict_is (packs.read_available_narrow _ _ _) (lit< tt); indicators_is = m.indicators_is }
+    record { answer_is = fitted 0 c.done.ensures m.verdict_is (packs.read_available_narrow _ _ _) (lit< tt); indicators_is = m.indicators_is }

@@ -7,4 +7,4 @@ use Rattle.slt_antenna.proofs.slt_slot_map_antenna.Goals as goal
 pub returns : goal.returns
 returns c =
     let m = c.map.ensures in
-    record { answer_is = fitted 0 c.pack.ensures m.verdict_is (packs.map_narrow _ _ _ _ _ _ _) (lit< tt); out_is = m.out_is }
+    record { answer_is = fitted 0 c.done.ensures m.verdict_is (packs.map_narrow _ _ _ _ _ _ _) (lit< tt); out_is = m.out_is }

@@ -7,5 +7,5 @@ use Rattle.slt_antenna.proofs.slt_slot_read_antennas.Goals as goal
 
 pub returns : goal.returns
 returns c =
-    let m = c.read-command.ensures in
-    record { answer_is = fitted _ c.pack.ensures m.verdict_is (packs.read_narrow _ _ _ _ _ _) (packs.command_small _ _ _ _ _ _ _ _ _ m) ∙ ap (packed _) m.command_is; data_is = m.data_is; tfci_is = m.tfci_is }
+    let m = c.read.ensures in
+    record { answer_is = fitted _ c.answer.ensures m.verdict_is (packs.read_narrow _ _ _ _ _ _) (packs.command_small _ _ _ _ _ _ _ _ _ m) ∙ ap (packed _) m.command_is; data_is = m.data_is; tfci_is = m.tfci_is }

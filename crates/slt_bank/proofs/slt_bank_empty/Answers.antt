@@ -7,4 +7,4 @@ use Rattle.slt_bank.proofs.slt_bank_empty.Goals as goal
 pub returns : goal.returns
 returns c =
     let m = c.empty.ensures in
-    record { answer_is = fitted 0 c.pack.ensures m.verdict_is (packs.empty_narrow _) (lit< tt); bank_is = m.bank_is }
+    record { answer_is = fitted 0 c.done.ensures m.verdict_is (packs.empty_narrow _) (lit< tt); bank_is = m.bank_is }

@@ -7,4 +7,4 @@ use Rattle.slt_bank.proofs.slt_bank_fetch.Goals as goal
 pub returns : goal.returns
 returns c =
     let m = c.fetch.ensures in
-    record { answer_is = fitted 0 c.pack.ensures m.verdict_is (packs.fetch_narrow _ _ _) (lit< tt); out_is = m.out_is }
+    record { answer_is = fitted 0 c.done.ensures m.verdict_is (packs.fetch_narrow _ _ _) (lit< tt); out_is = m.out_is }

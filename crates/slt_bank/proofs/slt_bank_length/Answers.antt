@@ -7,5 +7,5 @@ use Rattle.slt_bank.proofs.slt_bank_length.Goals as goal
 
 pub returns : goal.returns
 returns c =
-    let m = c.length_of-length.ensures in
-    record { answer_is = fitted _ (c.pack.ensures ∙ ap (packed_cut _) m.count_is) m.verdict_is (packs.drop_narrow _ _) (packs.length_small _ _) }
+    let m = c.length_of.ensures in
+    record { answer_is = fitted _ (c.answer.ensures ∙ ap (packed_cut _) m.count_is) m.verdict_is (packs.drop_narrow _ _) (packs.length_small _ _) }

@@ -7,5 +7,5 @@ use Rattle.slt_bank.proofs.slt_bank_room.Goals as goal
 
 pub returns : goal.returns
 returns c =
-    let m = c.room-room.ensures in
-    record { answer_is = fitted _ (c.pack.ensures ∙ ap (packed_cut _) m.count_is) m.verdict_is (packs.room_narrow _) (packs.room_small _) }
+    let m = c.room.ensures in
+    record { answer_is = fitted _ (c.answer.ensures ∙ ap (packed_cut _) m.count_is) m.verdict_is (packs.room_narrow _) (packs.room_small _) }

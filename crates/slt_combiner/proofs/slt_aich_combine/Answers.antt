@@ -18,4 +18,4 @@ returns c =
     )
     at c.combine.ensures
     in
-    record { answer_is = fitted 0 c.pack.ensures m.verdict_is (packs _ _ _ _) (lit< tt); results_is = m.results_is }
+    record { answer_is = fitted 0 c.done.ensures m.verdict_is (packs _ _ _ _) (lit< tt); results_is = m.results_is }

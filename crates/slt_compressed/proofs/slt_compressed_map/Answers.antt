@@ -6,5 +6,5 @@ use Rattle.slt_compressed.proofs.slt_compressed_map.Goals as goal
 
 pub returns : goal.returns
 returns c =
-    let m = c.map-verdict.ensures in
-    record { answer_is = fitted 0 c.pack.ensures m.verdict_is (packs.map_narrow _ _ _ _ _ _ _ _) (lit< tt); out_is = m.out_is }
+    let m = c.map.ensures in
+    record { answer_is = fitted 0 c.done.ensures m.verdict_is (packs.map_narrow _ _ _ _ _ _ _ _) (lit< tt); out_is = m.out_is }

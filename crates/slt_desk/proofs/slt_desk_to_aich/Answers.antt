@@ -7,7 +7,7 @@ use Rattle.slt_desk.proofs.slt_desk_to_aich.Goals as goal
 
 pub returns : goal.returns
 returns c =
-    let a = c.to_aich-to_indicator.ensures in
+    let a = c.to_aich.ensures in
     record {
-      answer_is = fitted _ c.pack.ensures a.verdict_is (packs.timing_narrow _) (rw a.chips_is (packs.to_aich_small _)) ∙ ap (packed _) a.chips_is;
+      answer_is = fitted _ c.answer.ensures a.verdict_is (packs.timing_narrow _) (rw a.chips_is (packs.to_aich_small _)) ∙ ap (packed _) a.chips_is;
     }

@@ -7,7 +7,7 @@ use Rattle.slt_desk.proofs.slt_desk_to_message.Goals as goal
 
 pub returns : goal.returns
 returns c =
-    let a = c.to_message-to_message.ensures in
+    let a = c.to_message.ensures in
     record {
-      answer_is = fitted _ c.pack.ensures a.verdict_is (packs.timing_narrow _) (rw a.chips_is (packs.to_message_small _)) ∙ ap (packed _) a.chips_is;
+      answer_is = fitted _ c.answer.ensures a.verdict_is (packs.timing_narrow _) (rw a.chips_is (packs.to_message_small _)) ∙ ap (packed _) a.chips_is;
     }

@@ -7,4 +7,4 @@ use Rattle.slt_dpcch.proofs.slt_dpcch_frame_read.Goals as goal
 pub returns : goal.returns
 returns c =
     let m = c.read.ensures in
-    record { answer_is = fitted 0 c.pack.ensures m.verdict_is (packs.frame_read_narrow _ _ _ _ _) (lit< tt); tfci_is = m.tfci_is; fbi_is = m.fbi_is; commands_is = m.commands_is }
+    record { answer_is = fitted 0 c.done.ensures m.verdict_is (packs.frame_read_narrow _ _ _ _ _) (lit< tt); tfci_is = m.tfci_is; fbi_is = m.fbi_is; commands_is = m.commands_is }

@@ -7,4 +7,4 @@ use Rattle.slt_dpdch.proofs.slt_dpdch_frame_map.Goals as goal
 pub returns : goal.returns
 returns c =
     let m = c.frame_map.ensures in
-    record { answer_is = fitted 0 c.pack.ensures m.verdict_is (packs.frame_map_narrow _ _ _) (lit< tt); out_is = m.out_is }
+    record { answer_is = fitted 0 c.done.ensures m.verdict_is (packs.frame_map_narrow _ _ _) (lit< tt); out_is = m.out_is }

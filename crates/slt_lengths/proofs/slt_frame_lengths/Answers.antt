@@ -4,4 +4,4 @@ use Rattle.slt_lengths.proofs.Laws.{length_packed}
 use Rattle.slt_lengths.proofs.slt_frame_lengths.Goals as goal
 
 pub returns : goal.returns
-returns c = length_packed _ _ _ c.told.ensures c.of_frame.ensures (packs.of_format 16 _ _ _) (short.of_frame _ _)
+returns c = length_packed _ _ _ c.answer.ensures c.of_frame.ensures (packs.of_format 16 _ _ _) (short.of_frame _ _)

@@ -7,4 +7,4 @@ use Rattle.slt_pccpch.proofs.slt_pccpch_map.Goals as goal
 pub returns : goal.returns
 returns c =
     let m = c.map.ensures in
-    record { answer_is = fitted 0 c.pack.ensures m.verdict_is (packs.map_narrow _ _ _) (lit< tt); antenna1_is = m.antenna1_is; antenna2_is = m.antenna2_is }
+    record { answer_is = fitted 0 c.done.ensures m.verdict_is (packs.map_narrow _ _ _) (lit< tt); antenna1_is = m.antenna1_is; antenna2_is = m.antenna2_is }

@@ -15,7 +15,7 @@ returns-then-input-gt4294967295 c =
     let out-length = length c.args.out.now in
     let long = too_long input out-length c.if-input-gt4294967295.true in
     record {
-      answer_is = fitted 0 c.pack.ensures (sym long) (short_narrow input out-length) (lit< tt);
+      answer_is = fitted 0 c.done.ensures (sym long) (short_narrow input out-length) (lit< tt);
       out_is = sym (leaves_refused _ _ _ (λ e. let z : ◌≡◌ {A = ℕ} 3 0 = rw long at e in omega arith));
     }
 
@@ -26,6 +26,6 @@ returns c =
     let out-length = length c.args.out.now in
     let short = short_enough input out-length c.if-input-gt4294967295.false in
     record {
-      answer_is = fitted 0 c.pack-2.ensures (m.verdict_is ∙ sym short) (short_narrow input out-length) (lit< tt);
+      answer_is = fitted 0 c.done-2.ensures (m.verdict_is ∙ sym short) (short_narrow input out-length) (lit< tt);
       out_is = rw short m.out_is;
     }

@@ -7,4 +7,4 @@ use Rattle.slt_sttd.proofs.slt_sttd_values.Goals as goal
 pub returns : goal.returns
 returns c =
     let m = c.values.ensures in
-    record { answer_is = fitted 0 c.pack.ensures m.verdict_is (packs.values_narrow _ _) (lit< tt); out_is = m.out_is }
+    record { answer_is = fitted 0 c.done.ensures m.verdict_is (packs.values_narrow _ _) (lit< tt); out_is = m.out_is }

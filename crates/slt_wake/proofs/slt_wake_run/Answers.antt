@@ -8,9 +8,9 @@ use Rattle.slt_wake.proofs.slt_wake_run.Goals as goal
 
 pub returns : goal.returns
 returns c =
-    let over = c.run-over.ensures in
+    let over = c.run.ensures in
     record {
-      answer_is = fitted 0 c.pack.ensures over.verdict_is (packs.run_narrow _ _ _ _) (lit< tt);
+      answer_is = fitted 0 c.done-answer.ensures over.verdict_is (packs.run_narrow _ _ _ _) (lit< tt);
       read_is = ap (λ (t : Tally). t.read) over.tally_is;
       woke_is = ap (λ (t : Tally). t.woke) over.tally_is;
       next_is = ap (λ (t : Tally). t.next) over.tally_is;

@@ -7,7 +7,6 @@ use Rattle.sttd_digits.proofs.encode_block.Goals as goal
 
 pub returns : goal.returns
 returns c =
-    let start = c in
     encoded_end _ _ refl (omega arith)
-    (capped_block _ _ start.requires.2 refl refl (omega arith) (front_none (encoded_length _ _)) c.capped.ensures c.capped-2.ensures
-    c.capped-3.ensures c.capped-4.ensures)
+    (capped_block _ _ c.requires.2 refl refl (omega arith) (front_none (encoded_length _ _)) c.min.ensures c.min-2.ensures
+    c.min-3.ensures c.min-4.ensures)

@@ -1,59 +1,49 @@
 -- `wake::frame` meets its contract: the checks in their order, each with the tally as it was, and then the tally one frame on.
-use mathlib.Core.Path.{◌≡◌, ◌∙◌}
+use mathlib.Core.Path.{◌≡◌, sym, ◌∙◌}
+use Rattle.run.proofs.Answers.{goes_on}
+use Rattle.run.proofs.Chain.{leaves_done, number_0}
 use Rattle.pich.specs.Rule.{q_of}
 use Rattle.pich.proofs.Laws.{asked}
 use Rattle.pich.proofs.Exact.{q_below}
-use Rattle.wake.proofs.Laws.{q_told, roomy, frame_stops, head_is, q_is, read_is, frame_read}
+use Rattle.wake.specs.Outcome.{frame_verdict}
+use Rattle.wake.proofs.Laws.{q_told, roomy, ends, frame_stops, frame_read}
 use Rattle.wake.proofs.frame.Goals as goal
 
-pub returns-then-head-ne0 : goal.returns-then-head-ne0
-returns-then-head-ne0 c =
-    let e = c.frame_head-head.ensures in
-    frame_stops _ _ _ _ _ (e ∙ head_is _ _ _ _ (rw e at c.if-head-ne0.true)) c.if-head-ne0.true
+pub returns-in_err-check_head : goal.returns-in_err-check_head
+unfolding frame_verdict
+returns-in_err-check_head c = frame_stops _ _ _ _ _ _ c.from_residual.ensures.1 (ends _ _ c.in_err-check_head.ensures)
 
-pub returns-then-asked-ne0 : goal.returns-then-asked-ne0
-returns-then-asked-ne0 c =
-    let paging = c in
-    let e = paging.frame_head-head.ensures in
-    let a = paging.q-paging.ensures.verdict_is in
-    frame_stops _ _ _ _ _ (a ∙ q_is _ _ _ _ (rw e at paging.if-head-ne0.false) (rw a at c.if-asked-ne0.true)) c.if-asked-ne0.true
+pub returns-in_err-q : goal.returns-in_err-q
+unfolding frame_verdict
+returns-in_err-q c =
+    frame_stops _ _ _ _ _ _ c.from_residual-in_err-q.ensures.1
+    (goes_on c.in_ok-check_head.ensures (ends _ _ c.in_err-q.ensures.verdict_is))
 
-pub look-looked-requires : goal.look-looked-requires
-look-looked-requires c =
-    let paging = c in
-    let p = paging.q-paging.ensures in
-    let z = rw p.verdict_is at c.if-asked-ne0.false in
+pub look-requires : goal.look-requires
+look-requires c =
+    let p = c.in_ok-q.ensures in
+    let z = number_0 (sym p.verdict_is) in
     let ok = (asked _ _ _ z).np_ok in
-    let at-q : paging.q-paging.result.q.0 ≡ q_of _ _ _ = q_told _ _ _ _ z p.q_is in
+    let at-q : c.in_ok-q.q.0 ≡ q_of _ _ _ = q_told _ _ _ _ z p.q_is in
     (ok, rw at-q (q_below _ _ _ ok))
 
-pub returns-then-verdict-ne0 : goal.returns-then-verdict-ne0
-returns-then-verdict-ne0 c =
-    let looked = c in
-    let paging = looked in
-    let e = paging.frame_head-head.ensures in
-    let a = paging.q-paging.ensures.verdict_is in
-    let v = looked.look-looked.ensures.0 in
-    frame_stops _ _ _ _ _ (v ∙ read_is _ _ _ _ (rw e at paging.if-head-ne0.false) (rw a at looked.if-asked-ne0.false)) c.if-verdict-ne0.true
+pub returns-in_err-indicator : goal.returns-in_err-indicator
+unfolding frame_verdict
+returns-in_err-indicator c =
+    frame_stops _ _ _ _ _ _ c.from_residual-in_err-indicator.ensures.1
+    (goes_on c.in_ok-check_head.ensures (goes_on c.in_ok-q.ensures.verdict_is c.in_err-indicator.ensures.0))
 
 pub moved-requires : goal.moved-requires
 moved-requires c =
-    let looked = c in
-    let paging = looked in
-    let e = paging.frame_head-head.ensures in
-    let room = roomy _ _ _ (rw e at paging.if-head-ne0.false) in
-    let a = paging.q-paging.ensures.verdict_is in
-    (room.read_room, room.woke_room, (asked _ _ _ (rw a at looked.if-asked-ne0.false)).sfn_ok)
+    let room = roomy _ _ _ (number_0 (sym c.in_ok-check_head.ensures)) in
+    (room.read_room, room.woke_room, (asked _ _ _ (number_0 (sym c.in_ok-q.ensures.verdict_is))).sfn_ok)
 
 pub returns : goal.returns
+unfolding frame_verdict
 returns c =
-    let looked = c in
-    let paging = looked in
-    let e = paging.frame_head-head.ensures in
-    let p = paging.q-paging.ensures in
-    let z = rw p.verdict_is at looked.if-asked-ne0.false in
-    let v = looked.look-looked.ensures in
-    let there = v.1 c.if-verdict-ne0.false in
-    let at-q : paging.q-paging.result.q.0 ≡ q_of _ _ _ = q_told _ _ _ _ z p.q_is in
-    frame_read _ _ _ _ _ (v.0 ∙ read_is _ _ _ _ (rw e at paging.if-head-ne0.false) z) c.if-verdict-ne0.false _
-    (c.moved.ensures ∙ rw (there, at-q))
+    let p = c.in_ok-q.ensures in
+    let z = number_0 (sym p.verdict_is) in
+    let v = c.in_ok-indicator.ensures in
+    let there = v.1 ∙ leaves_done _ _ _ (number_0 (sym v.0)) in
+    let at-q : c.in_ok-q.q.0 ≡ q_of _ _ _ = q_told _ _ _ _ z p.q_is in
+    frame_read _ _ _ _ (goes_on c.in_ok-check_head.ensures (goes_on p.verdict_is v.0)) _ (c.moved.ensures ∙ rw (there, at-q))

@@ -6,21 +6,16 @@ use Rattle.run.proofs.Over.{over_length, over_at, over_rest}
 use Rattle.write.proofs.copy.Goals as goal
 
 pub loop-i-init : goal.loop-i-init
-loop-i-init c = (front_none (over_length _ _), omega arith)
+loop-i-init c = front_none (over_length _ _)
 
 pub bounds-dst-i : goal.bounds-dst-i
-bounds-dst-i c = omega (arith, front_length c.loop-i.invariant.0)
+bounds-dst-i c = omega (arith, front_length c.loop-i.invariant)
 
 pub loop-i-preserved : goal.loop-i-preserved
-loop-i-preserved c =
-    let head = c in
-    (front_store 0 head.loop-i.invariant.0 (omega (arith, front_length head.loop-i.invariant.0)) (sym (over_at _ _ _ 0 (omega arith))), omega arith)
+loop-i-preserved c = front_store 0 c.loop-i.invariant (omega (arith, front_length c.loop-i.invariant)) (sym (over_at _ _ _ 0 (omega arith)))
 
 pub shape_of-dst : goal.shape_of-dst
-shape_of-dst c = front_length c.loop-i.invariant.0
+shape_of-dst c = front_length c.loop-i.invariant
 
 pub returns : goal.returns
-returns c =
-    let head = c in
-    let start = head in
-    front_end head.loop-i.invariant.0 (over_rest start.args.src.now start.args.dst.now head.loop-i.i (omega arith))
+returns c = front_end c.loop-i.invariant (over_rest c.args.src.now c.args.dst.now c.loop-i.i (omega arith))

@@ -1,4 +1,3 @@
-use Prim.Native.Nat.{◌-◌}
 use lib.IntN.{pos}
 use Rattle.run.proofs.Passing.{Passing}
 use Rattle.whole.specs.Equal.{eq_z}
@@ -7,6 +6,3 @@ use Rattle.aich.proofs.set.none_stray.Given as goal
 
 abbrev pub invariant-loop-s : goal.invariant-loop-s
 invariant-loop-s l = Passing (allows l.available l.indicators) 16 l.s (eq_z l.strays (pos 0))
-
-abbrev pub decreases-loop-s : goal.decreases-loop-s
-decreases-loop-s l = 16 - l.s

@@ -1,17 +1,17 @@
 -- `compressed_read::slots::check_digits` meets its contract: slot by slot, up to the first that is refused.
-use mathlib.Core.Path.{sym, ◌∙◌}
-use Prim.Native.Nat.{◌-◌}
+use mathlib.Core.Path.{sym}
 use native.Mathlib.Nat.{not-suc-le-zero}
 use native.Mathlib.Omega.{arith}
 use borrow.Author.Count.{below_more}
-use Rattle.run.proofs.Chain.{chain_end, chain_hit}
+use Rattle.run.proofs.Chain.{chain_end, number_0}
 use Rattle.run.proofs.Parts.{part_room}
 use Rattle.dpch.specs.Compressed.{format_in}
+use Rattle.frame.proofs.Laws.{slot_stops}
 use Rattle.compressed.proofs.Laws.{checked_at}
 use Rattle.compressed_read.proofs.slots.check_digits.Goals as goal
 
 pub loop-k-init : goal.loop-k-init
-loop-k-init c = (omega arith, λ j h. absurd (not-suc-le-zero h))
+loop-k-init c = λ j h. absurd (not-suc-le-zero h)
 
 pub overflow_mul-i : goal.overflow_mul-i
 overflow_mul-i c = omega (arith, part_room c.loop-k.k 15 c.row_sizes-s.result.slot c.loop-k-test.true, c.row_sizes-s.ensures)
@@ -19,24 +19,24 @@ overflow_mul-i c = omega (arith, part_room c.loop-k.k 15 c.row_sizes-s.result.sl
 pub overflow_add-j : goal.overflow_add-j
 overflow_add-j c = omega (arith, part_room c.loop-k.k 15 c.row_sizes-s.result.slot c.loop-k-test.true, c.row_sizes-s.ensures)
 
-pub slice_bounds-slot_verdict-start : goal.slice_bounds-slot_verdict-start
-slice_bounds-slot_verdict-start c = omega (arith, part_room c.loop-k.k 15 c.row_sizes-s.result.slot c.loop-k-test.true, c.row_sizes-s.ensures, c.requires)
+pub slice_bounds-check_slot-start : goal.slice_bounds-check_slot-start
+slice_bounds-check_slot-start c = omega (arith, part_room c.loop-k.k 15 c.row_sizes-s.result.slot c.loop-k-test.true, c.row_sizes-s.ensures, c.requires)
 
-pub slice_bounds-slot_verdict-end : goal.slice_bounds-slot_verdict-end
-slice_bounds-slot_verdict-end c = omega (arith, part_room c.loop-k.k 15 c.row_sizes-s.result.slot c.loop-k-test.true, c.row_sizes-s.ensures, c.requires)
+pub slice_bounds-check_slot-end : goal.slice_bounds-check_slot-end
+slice_bounds-check_slot-end c = omega (arith, part_room c.loop-k.k 15 c.row_sizes-s.result.slot c.loop-k-test.true, c.row_sizes-s.ensures, c.requires)
 
 pub overflow_cast-i : goal.overflow_cast-i
 overflow_cast-i c = omega (arith, part_room c.loop-k.k 15 c.row_sizes-s.result.slot c.loop-k-test.true, c.row_sizes-s.ensures)
 
-pub returns-then-verdict-ne0 : goal.returns-then-verdict-ne0
-returns-then-verdict-ne0 c =
-    let at-k = checked_at (format_in c.args.kind c.args.format) c.args.first c.args.missing _ _ _ _ c.row_sizes-s.ensures.slot_is c.loop-k-test.true c.requires c.slot_verdict-verdict.ensures in
-    at-k ∙ sym (chain_hit 15 _ _ c.loop-k-test.true c.loop-k.invariant.1 (rw at-k at c.if-verdict-ne0.true))
+pub returns-in_err-check_slot : goal.returns-in_err-check_slot
+returns-in_err-check_slot c =
+    slot_stops 15 _ _ _ _ c.loop-k-test.true c.loop-k.invariant c.from_residual.ensures.1
+    (checked_at (format_in c.args.kind c.args.format) c.args.first c.args.missing _ _ _ _ c.row_sizes-s.ensures.slot_is c.loop-k-test.true c.requires c.in_err-check_slot.ensures)
 
 pub loop-k-preserved : goal.loop-k-preserved
 loop-k-preserved c =
-    let at-k = checked_at (format_in c.args.kind c.args.format) c.args.first c.args.missing _ _ _ _ c.row_sizes-s.ensures.slot_is c.loop-k-test.true c.requires c.slot_verdict-verdict.ensures in
-    (omega arith, below_more _ _ c.loop-k.invariant.1 (rw at-k at c.if-verdict-ne0.false))
+    below_more _ _ c.loop-k.invariant
+    (number_0 (sym (checked_at (format_in c.args.kind c.args.format) c.args.first c.args.missing _ _ _ _ c.row_sizes-s.ensures.slot_is c.loop-k-test.true c.requires c.in_ok-check_slot.ensures)))
 
 pub returns : goal.returns
-returns c = sym (chain_end 15 _ (λ k h. c.loop-k.invariant.1 k (omega arith)))
+returns c = sym (chain_end 15 _ (λ k h. c.loop-k.invariant k (omega arith)))

@@ -1,6 +1,6 @@
 -- `compressed_read::slots::take` meets its contract: each turn takes the fields of one transmitted slot more.
 use mathlib.Core.Path.{◌≡◌, sym, ◌∙◌}
-use Prim.Native.Nat.{ℕ, ◌+◌, ◌-◌, ◌*◌, ◌≤◌}
+use Prim.Native.Nat.{ℕ, ◌+◌, ◌*◌, ◌≤◌}
 use native.Mathlib.Nat.{zero-mul}
 use native.Mathlib.Omega.{arith}
 use lib.ListN.{length}
@@ -26,7 +26,6 @@ pub loop-t-init : goal.loop-t-init
 loop-t-init c =
     let room = c.requires.0 in
     let long = room.frame_ok in (
-      omega arith,
       rw zero-mul (front_none (data_in_length _ (sound_row _ _) _ _ room.gap_ok _ long ∙ sym room.fields.data_ok)),
       rw zero-mul (front_none (tfci_in_length _ (sound_row _ _) _ _ room.gap_ok _ long ∙ sym room.fields.tfci_ok)),
       front_none (commands_in_length _ (sound_row _ _) _ _ room.gap_ok _ long ∙ sym room.fields.commands_ok),
@@ -60,16 +59,16 @@ pub slice_bounds-take_row-end : goal.slice_bounds-take_row-end
 slice_bounds-take_row-end c = omega (arith, parts (goal.at.slice_bounds-take_row-end c).In-loop-t c.number_of-k.ensures)
 
 pub slice_bounds-take_row-start-in-loop-t : goal.slice_bounds-take_row-start-in-loop-t
-slice_bounds-take_row-start-in-loop-t c = omega (arith, parts (goal.at.slice_bounds-take_row-start-in-loop-t c).In-loop-t c.number_of-k.ensures, front_length c.loop-t.invariant.1)
+slice_bounds-take_row-start-in-loop-t c = omega (arith, parts (goal.at.slice_bounds-take_row-start-in-loop-t c).In-loop-t c.number_of-k.ensures, front_length c.loop-t.invariant.0)
 
 pub slice_bounds-take_row-end-in-loop-t : goal.slice_bounds-take_row-end-in-loop-t
-slice_bounds-take_row-end-in-loop-t c = omega (arith, parts (goal.at.slice_bounds-take_row-end-in-loop-t c).In-loop-t c.number_of-k.ensures, front_length c.loop-t.invariant.1)
+slice_bounds-take_row-end-in-loop-t c = omega (arith, parts (goal.at.slice_bounds-take_row-end-in-loop-t c).In-loop-t c.number_of-k.ensures, front_length c.loop-t.invariant.0)
 
 pub slice_bounds-take_row-start-in-loop-t-2 : goal.slice_bounds-take_row-start-in-loop-t-2
-slice_bounds-take_row-start-in-loop-t-2 c = omega (arith, parts (goal.at.slice_bounds-take_row-start-in-loop-t-2 c).In-loop-t c.number_of-k.ensures, front_length c.loop-t.invariant.2)
+slice_bounds-take_row-start-in-loop-t-2 c = omega (arith, parts (goal.at.slice_bounds-take_row-start-in-loop-t-2 c).In-loop-t c.number_of-k.ensures, front_length c.loop-t.invariant.1)
 
 pub slice_bounds-take_row-end-in-loop-t-2 : goal.slice_bounds-take_row-end-in-loop-t-2
-slice_bounds-take_row-end-in-loop-t-2 c = omega (arith, parts (goal.at.slice_bounds-take_row-end-in-loop-t-2 c).In-loop-t c.number_of-k.ensures, front_length c.loop-t.invariant.2)
+slice_bounds-take_row-end-in-loop-t-2 c = omega (arith, parts (goal.at.slice_bounds-take_row-end-in-loop-t-2 c).In-loop-t c.number_of-k.ensures, front_length c.loop-t.invariant.1)
 
 pub overflow_cast-commands : goal.overflow_cast-commands
 overflow_cast-commands c =
@@ -80,15 +79,12 @@ overflow_cast-commands c =
     let l = c.loop-t in
     let b =
     slot_back (format_in a.kind a.format) (sound_row _ _) a.first a.missing a.xs.now a.«data».now a.tfci.now a.commands.now l.«data» l.tfci _ _ _ _ _ room h
-    c.number_of-k.ensures s.data_is s.tfci_is s.slot_is l.invariant.1 l.invariant.2 _ _ _ c.take_row-taken.ensures
+    c.number_of-k.ensures s.data_is s.tfci_is s.slot_is l.invariant.0 l.invariant.1 _ _ _ c.take_row-taken.ensures
     in
     omega (arith, b.command_back, command_of (format_in a.kind a.format) (sound_row _ _) a.first a.missing room.gap_ok a.xs.now room.frame_ok _ h, c.requires.1.bit _ h)
 
 pub bounds-commands-t : goal.bounds-commands-t
-bounds-commands-t c = omega (arith, parts (goal.at.bounds-commands-t c).In-loop-t c.number_of-k.ensures, front_length c.loop-t.invariant.3)
-
-pub overflow_add-t : goal.overflow_add-t
-overflow_add-t c = omega (arith, c.transmitted-count.ensures)
+bounds-commands-t c = omega (arith, parts (goal.at.bounds-commands-t c).In-loop-t c.number_of-k.ensures, front_length c.loop-t.invariant.2)
 
 pub loop-t-preserved : goal.loop-t-preserved
 loop-t-preserved c =
@@ -99,22 +95,21 @@ loop-t-preserved c =
     let l = c.loop-t in
     let b =
     slot_back (format_in a.kind a.format) (sound_row _ _) a.first a.missing a.xs.now a.«data».now a.tfci.now a.commands.now l.«data» l.tfci _ _ _ _ _ room h
-    c.number_of-k.ensures s.data_is s.tfci_is s.slot_is l.invariant.1 l.invariant.2 _ _ _ c.take_row-taken.ensures
+    c.number_of-k.ensures s.data_is s.tfci_is s.slot_is l.invariant.0 l.invariant.1 _ _ _ c.take_row-taken.ensures
     in (
-      omega arith,
       b.data_back,
       b.tfci_back,
-      front_store 0 l.invariant.3 (omega (arith, parts (goal.at.loop-t-preserved c).In-loop-t c.number_of-k.ensures, front_length l.invariant.3)) b.command_back,
+      front_store 0 l.invariant.2 (omega (arith, parts (goal.at.loop-t-preserved c).In-loop-t c.number_of-k.ensures, front_length l.invariant.2)) b.command_back,
     )
 
 pub shape_of-data : goal.shape_of-data
-shape_of-data c = front_length c.loop-t.invariant.1
+shape_of-data c = front_length c.loop-t.invariant.0
 
 pub shape_of-tfci : goal.shape_of-tfci
-shape_of-tfci c = front_length c.loop-t.invariant.2
+shape_of-tfci c = front_length c.loop-t.invariant.1
 
 pub shape_of-commands : goal.shape_of-commands
-shape_of-commands c = front_length c.loop-t.invariant.3
+shape_of-commands c = front_length c.loop-t.invariant.2
 
 pub returns : goal.returns
 returns c =
@@ -127,4 +122,4 @@ returns c =
     let d = room.fields.data_ok in
     let t = room.fields.tfci_ok in
     let n = room.fields.commands_ok in
-    (front_all c.loop-t.invariant.1 (omega arith), front_all c.loop-t.invariant.2 (omega arith), front_all c.loop-t.invariant.3 (omega arith))
+    (front_all c.loop-t.invariant.0 (omega arith), front_all c.loop-t.invariant.1 (omega arith), front_all c.loop-t.invariant.2 (omega arith))

@@ -1,15 +1,12 @@
 -- `dpcch_check::fields::check` meets its contract: the chain of checks is the definition's, field by field.
-use mathlib.Core.Path.{◌≡◌, refl, sym}
+use mathlib.Core.Path.{◌≡◌}
 use Prim.Native.Nat.{◌+◌, ◌≤◌}
 use native.Mathlib.Omega.{arith}
-use lib.Dec.{lit<}
-use Rattle.run.specs.First.{like_first}
-use Rattle.run.proofs.Chain.{or_else_is, each_is}
-use Rattle.run.proofs.Stretch.{check_field}
-use Rattle.dpch.specs.Uplink.{dpcch_widths}
+use Rattle.run.proofs.Answers.{stops, goes_on, found_each}
+use Rattle.run.proofs.Places.{above_first}
 use Rattle.dpcch.specs.Outcome.{digits_verdict}
-use Rattle.dpcch.proofs.Laws.{sum, start_tpc}
-use Rattle.dpcch_check.proofs.Laws.{check_pilot}
+use Rattle.dpcch.proofs.Laws.{sum}
+use Rattle.dpcch_check.proofs.Laws.{check_tpc, check_pilot}
 use Rattle.dpcch_check.proofs.fields.check.Goals as goal
 use Rattle.dpcch_check.proofs.fields.check.Goals.{Start}
 
@@ -37,13 +34,20 @@ overflow_cast-b c = omega (arith, sums (goal.at.overflow_cast-b c).Start)
 pub overflow_add-first : goal.overflow_add-first
 overflow_add-first c = omega (arith, sums (goal.at.overflow_add-first c).Start)
 
+pub returns-in_err-refused_at : goal.returns-in_err-refused_at
+unfolding digits_verdict
+returns-in_err-refused_at c =
+    stops _ _ _ c.from_residual.ensures.1 (found_each _ _ _ _ c.above.result (above_first _ _ c.above.ensures) c.in_err-refused_at.ensures)
+
+pub returns-in_err-refused_at-2 : goal.returns-in_err-refused_at-2
+unfolding digits_verdict
+returns-in_err-refused_at-2 c =
+    goes_on (found_each _ _ _ _ c.above.result (above_first _ _ c.above.ensures) c.in_ok-refused_at.ensures)
+    (stops _ _ _ c.from_residual-in_err-refused_at-2.ensures.1 (check_tpc c.args.f c.args.xs.now _ _ c.unlike.result _ c.unlike.ensures c.in_err-refused_at-2.ensures))
+
 pub returns : goal.returns
 unfolding digits_verdict
 returns c =
-    let a = c.args in
-    let f = a.f in
-    let xs = a.xs.now in
-    or_else_is c.or_else.ensures (each_is _ _ _ _ _ _ c.first_above.ensures c.found-2.ensures)
-    (or_else_is c.or_else-commands.ensures
-    (check_field (dpcch_widths f) xs 3 _ _ (lit< tt) (sym (start_tpc f)) refl _ _ like_first _ _ c.first_unlike.ensures c.found.ensures)
-    (check_pilot f xs c.requires a.slot _ _ _ _ c.pilot_differs.ensures c.found-last.ensures))
+    goes_on (found_each _ _ _ _ c.above.result (above_first _ _ c.above.ensures) c.in_ok-refused_at.ensures)
+    (goes_on (check_tpc c.args.f c.args.xs.now _ _ c.unlike.result _ c.unlike.ensures c.in_ok-refused_at-2.ensures)
+    (check_pilot c.args.f c.args.xs.now c.requires c.args.slot _ _ c.pilot_differs.result _ c.pilot_differs.ensures c.refused_at-3.ensures))

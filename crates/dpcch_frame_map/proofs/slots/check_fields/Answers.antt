@@ -1,10 +1,12 @@
 -- `dpcch_frame_map::slots::check_fields` meets its contract: slot by slot, up to the first that is refused.
-use mathlib.Core.Path.{sym, ◌∙◌}
-use Prim.Native.Nat.{◌+◌, ◌-◌, ◌*◌, ◌≤◌}
+use mathlib.Core.Path.{sym, ap, ◌∙◌}
+use Prim.Native.Nat.{◌+◌, ◌*◌, ◌≤◌}
 use native.Mathlib.Nat.{not-suc-le-zero}
 use native.Mathlib.Omega.{arith}
 use borrow.Author.Count.{below_more}
-use Rattle.run.proofs.Chain.{chain_end, chain_hit}
+use Rattle.run.specs.Verdict.{Verdict}
+use Rattle.run.proofs.Answers.{handed, refuses}
+use Rattle.run.proofs.Chain.{chain_end, chain_hit, number_0}
 use Rattle.run.proofs.Parts.{part_room}
 use Rattle.dpcch.proofs.Laws.{sizes}
 use Rattle.dpcch.proofs.Frames.{fields_at}
@@ -17,7 +19,7 @@ rooms : (c : In-loop-k)
 rooms c = (part_room _ 15 _ c.loop-k-test.true, part_room _ 15 _ c.loop-k-test.true)
 
 pub loop-k-init : goal.loop-k-init
-loop-k-init c = (omega arith, λ j h. absurd (not-suc-le-zero h))
+loop-k-init c = λ j h. absurd (not-suc-le-zero h)
 
 pub overflow_mul-a : goal.overflow_mul-a
 overflow_mul-a c = omega (arith, rooms (c), sizes _ _ c.format_of-f.ensures)
@@ -31,20 +33,17 @@ overflow_mul-b c = omega (arith, rooms (c), sizes _ _ c.format_of-f.ensures)
 pub overflow_add-c : goal.overflow_add-c
 overflow_add-c c = omega (arith, rooms (c), sizes _ _ c.format_of-f.ensures)
 
-pub overflow_cast-tpc : goal.overflow_cast-tpc
-overflow_cast-tpc c = omega (arith, c.shared_slice_known-in-loop-k-1.given c.loop-k.k)
+pub slice_bounds-check_fields-start : goal.slice_bounds-check_fields-start
+slice_bounds-check_fields-start c = omega (arith, rooms (goal.at.slice_bounds-check_fields-start c).In-loop-k, sizes _ _ c.format_of-f.ensures, c.requires)
 
-pub slice_bounds-fields_verdict-start : goal.slice_bounds-fields_verdict-start
-slice_bounds-fields_verdict-start c = omega (arith, rooms (goal.at.slice_bounds-fields_verdict-start c).In-loop-k, sizes _ _ c.format_of-f.ensures, c.requires)
+pub slice_bounds-check_fields-end : goal.slice_bounds-check_fields-end
+slice_bounds-check_fields-end c = omega (arith, rooms (goal.at.slice_bounds-check_fields-end c).In-loop-k, sizes _ _ c.format_of-f.ensures, c.requires)
 
-pub slice_bounds-fields_verdict-end : goal.slice_bounds-fields_verdict-end
-slice_bounds-fields_verdict-end c = omega (arith, rooms (goal.at.slice_bounds-fields_verdict-end c).In-loop-k, sizes _ _ c.format_of-f.ensures, c.requires)
+pub slice_bounds-check_fields-start-in-loop-k : goal.slice_bounds-check_fields-start-in-loop-k
+slice_bounds-check_fields-start-in-loop-k c = omega (arith, rooms (goal.at.slice_bounds-check_fields-start-in-loop-k c).In-loop-k, sizes _ _ c.format_of-f.ensures, c.requires)
 
-pub slice_bounds-fields_verdict-start-in-loop-k : goal.slice_bounds-fields_verdict-start-in-loop-k
-slice_bounds-fields_verdict-start-in-loop-k c = omega (arith, rooms (goal.at.slice_bounds-fields_verdict-start-in-loop-k c).In-loop-k, sizes _ _ c.format_of-f.ensures, c.requires)
-
-pub slice_bounds-fields_verdict-end-in-loop-k : goal.slice_bounds-fields_verdict-end-in-loop-k
-slice_bounds-fields_verdict-end-in-loop-k c = omega (arith, rooms (goal.at.slice_bounds-fields_verdict-end-in-loop-k c).In-loop-k, sizes _ _ c.format_of-f.ensures, c.requires)
+pub slice_bounds-check_fields-end-in-loop-k : goal.slice_bounds-check_fields-end-in-loop-k
+slice_bounds-check_fields-end-in-loop-k c = omega (arith, rooms (goal.at.slice_bounds-check_fields-end-in-loop-k c).In-loop-k, sizes _ _ c.format_of-f.ensures, c.requires)
 
 pub overflow_cast-a : goal.overflow_cast-a
 overflow_cast-a c = omega (arith, rooms (goal.at.overflow_cast-a c).In-loop-k, sizes _ _ c.format_of-f.ensures)
@@ -52,17 +51,19 @@ overflow_cast-a c = omega (arith, rooms (goal.at.overflow_cast-a c).In-loop-k, s
 pub overflow_cast-b : goal.overflow_cast-b
 overflow_cast-b c = omega (arith, rooms (goal.at.overflow_cast-b c).In-loop-k, sizes _ _ c.format_of-f.ensures)
 
-pub returns-then-verdict-ne0 : goal.returns-then-verdict-ne0
-returns-then-verdict-ne0 c =
+pub returns-in_err-check_fields : goal.returns-in_err-check_fields
+returns-in_err-check_fields c =
     let s = sizes _ _ c.format_of-f.ensures in
-    let at-k = fields_at _ _ _ c.args.commands.now _ _ _ _ s.tfci_is s.fbi_is c.fields_verdict-verdict.ensures in
-    at-k ∙ sym (chain_hit 15 _ _ c.loop-k-test.true c.loop-k.invariant.1 (rw at-k at c.if-verdict-ne0.true))
+    let refusal = c.in_err-check_fields.field-0.0 in
+    let at-k = fields_at _ _ _ c.args.commands.now _ _ _ _ s.tfci_is s.fbi_is c.in_err-check_fields.ensures in
+    handed _ _ c.from_residual.ensures.1 ∙ at-k
+    ∙ sym (chain_hit 15 _ _ c.loop-k-test.true c.loop-k.invariant (λ e. refuses refusal refusal.place (ap (λ (v : Verdict). v.number) at-k ∙ e)))
 
 pub loop-k-preserved : goal.loop-k-preserved
 loop-k-preserved c =
     let s = sizes _ _ c.format_of-f.ensures in
-    let at-k = fields_at _ _ _ c.args.commands.now _ _ _ _ s.tfci_is s.fbi_is c.fields_verdict-verdict.ensures in
-    (omega arith, below_more _ _ c.loop-k.invariant.1 (rw at-k at c.if-verdict-ne0.false))
+    let at-k = fields_at _ _ _ c.args.commands.now _ _ _ _ s.tfci_is s.fbi_is c.in_ok-check_fields.ensures in
+    below_more _ _ c.loop-k.invariant (number_0 (sym at-k))
 
 pub returns : goal.returns
-returns c = sym (chain_end 15 _ (λ k h. c.loop-k.invariant.1 k (omega arith)))
+returns c = sym (chain_end 15 _ (λ k h. c.loop-k.invariant k (omega arith)))

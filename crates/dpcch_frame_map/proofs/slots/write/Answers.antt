@@ -1,6 +1,6 @@
 -- `dpcch_frame_map::slots::write` meets its contract: each turn writes one slot more.
 use mathlib.Core.Path.{◌≡◌, sym, ◌∙◌}
-use Prim.Native.Nat.{◌+◌, ◌-◌, ◌*◌, ◌≤◌}
+use Prim.Native.Nat.{◌+◌, ◌*◌, ◌≤◌}
 use native.Mathlib.Nat.{zero-mul}
 use native.Mathlib.Omega.{arith}
 use Rattle.run.proofs.Front.{front_none, front_length, front_all}
@@ -18,7 +18,7 @@ rooms : (c : In-loop-slot)
 rooms c = (part_room _ 15 _ c.loop-slot-test.true, part_room _ 15 _ c.loop-slot-test.true, part_room _ 15 _ c.loop-slot-test.true)
 
 pub loop-slot-init : goal.loop-slot-init
-loop-slot-init c = (omega arith, rw zero-mul (front_none (frame_length _ _ _ _ c.requires.fields.tfci_ok c.requires.fields.fbi_ok ∙ sym c.requires.frame_ok)))
+loop-slot-init c = rw zero-mul (front_none (frame_length _ _ _ _ c.requires.fields.tfci_ok c.requires.fields.fbi_ok ∙ sym c.requires.frame_ok))
 
 pub overflow_mul-a : goal.overflow_mul-a
 overflow_mul-a c = omega (arith, rooms (c), sizes _ _ c.format_of-f.ensures)
@@ -54,25 +54,22 @@ pub slice_bounds-put-end-in-loop-slot : goal.slice_bounds-put-end-in-loop-slot
 slice_bounds-put-end-in-loop-slot c = omega (arith, rooms (goal.at.slice_bounds-put-end-in-loop-slot c).In-loop-slot, sizes _ _ c.format_of-f.ensures, c.requires)
 
 pub slice_bounds-put-start-in-loop-slot-2 : goal.slice_bounds-put-start-in-loop-slot-2
-slice_bounds-put-start-in-loop-slot-2 c = omega (arith, rooms (goal.at.slice_bounds-put-start-in-loop-slot-2 c).In-loop-slot, sizes _ _ c.format_of-f.ensures, c.requires, front_length c.loop-slot.invariant.1)
+slice_bounds-put-start-in-loop-slot-2 c = omega (arith, rooms (goal.at.slice_bounds-put-start-in-loop-slot-2 c).In-loop-slot, sizes _ _ c.format_of-f.ensures, c.requires, front_length c.loop-slot.invariant)
 
 pub slice_bounds-put-end-in-loop-slot-2 : goal.slice_bounds-put-end-in-loop-slot-2
-slice_bounds-put-end-in-loop-slot-2 c = omega (arith, rooms (goal.at.slice_bounds-put-end-in-loop-slot-2 c).In-loop-slot, sizes _ _ c.format_of-f.ensures, c.requires, front_length c.loop-slot.invariant.1)
+slice_bounds-put-end-in-loop-slot-2 c = omega (arith, rooms (goal.at.slice_bounds-put-end-in-loop-slot-2 c).In-loop-slot, sizes _ _ c.format_of-f.ensures, c.requires, front_length c.loop-slot.invariant)
 
 pub loop-slot-preserved : goal.loop-slot-preserved
 loop-slot-preserved c =
-    let s = sizes _ _ c.format_of-f.ensures in (
-      omega arith,
-      slot_written _ _ _ c.args.commands.now _ _ _ _ _ _ _ c.requires c.loop-slot-test.true s.tfci_is s.fbi_is s.slot_is c.loop-slot.invariant.1
-          c.put.ensures,
-    )
+    let s = sizes _ _ c.format_of-f.ensures in
+    slot_written _ _ _ c.args.commands.now _ _ _ _ _ _ _ c.requires c.loop-slot-test.true s.tfci_is s.fbi_is s.slot_is c.loop-slot.invariant c.put.ensures
 
 pub shape_of-out : goal.shape_of-out
-shape_of-out c = front_length c.loop-slot.invariant.1
+shape_of-out c = front_length c.loop-slot.invariant
 
 pub returns : goal.returns
 returns c =
     let all : c.loop-slot.slot ≡ 15 = omega arith in
     let end : c.loop-slot.slot * c.format_of-f.result.slot ≡ 15 * (dpcch_format c.args.format).slot = rw (all, (sizes _ _ c.format_of-f.ensures).slot_is) in
     let room = c.requires.frame_ok in
-    front_all c.loop-slot.invariant.1 (omega arith)
+    front_all c.loop-slot.invariant (omega arith)

@@ -1,6 +1,6 @@
 -- `dpcch_frame_read::slots::all_fit` meets its contract: where all fitted so far, none of them is refused.
 use mathlib.Core.Path.{sym}
-use mathlib.Core.Bool.{true, false≢true}
+use mathlib.Core.Bool.{false≢true}
 use Prim.Native.Nat.{◌+◌, ◌-◌, ◌*◌}
 use native.Mathlib.Nat.{not-suc-le-zero}
 use native.Mathlib.Omega.{arith}
@@ -15,7 +15,7 @@ use Rattle.dpcch_frame_read.proofs.slots.all_fit.Goals as goal
 use Rattle.dpcch_frame_read.proofs.slots.all_fit.Goals.{then-not-fits, else-not-fits}
 
 pub loop-k-init : goal.loop-k-init
-loop-k-init c = (omega arith, λ e j h. absurd (not-suc-le-zero h))
+loop-k-init c = λ e j h. absurd (not-suc-le-zero h)
 
 pub overflow_mul-i : goal.overflow_mul-i
 overflow_mul-i c = omega (arith, part_room c.loop-k.k 15 c.format_of-f.result.slot c.loop-k-test.true, sizes _ _ c.format_of-f.ensures)
@@ -35,18 +35,16 @@ loop-k-preserved c =
     let k = c.loop-k.k in
     let w = c.format_of-f.result.slot in
     let test = c.loop-k-test.true in
-    let inv = c.loop-k.invariant.1 in
+    let inv = c.loop-k.invariant in
     elim c.if-not-fits.branch [
-      | then-not-fits way ↦ rw way.good-is (omega arith, λ e. absurd (false≢true e))
-      | else-not-fits way ↦ rw way.good-is (
-        omega arith,
-        λ e. below_more _ _ (inv e)
-            (number_0
-            (sym
-            (digits_at a.format a.xs.now k w _ (sizes _ _ c.format_of-f.ensures).slot_is test c.requires
-            (fits_anywhere a.format k (take (k * w + w - k * w) (drop (k * w) a.xs.now)) (k * w) c.fits.ensures way.if-not-fits.false)))),
-      )
+      | then-not-fits way ↦ rw way.good-is (λ e. absurd (false≢true e))
+      | else-not-fits way ↦ rw way.good-is
+          (λ e. below_more _ _ (inv e)
+          (number_0
+          (sym
+          (digits_at a.format a.xs.now k w _ (sizes _ _ c.format_of-f.ensures).slot_is test c.requires
+          (fits_anywhere a.format k (take (k * w + w - k * w) (drop (k * w) a.xs.now)) (k * w) c.fits.ensures way.if-not-fits.false)))))
     ]
 
 pub returns : goal.returns
-returns c = λ e. chain_end 15 _ (λ k h. c.loop-k.invariant.1 e k (omega arith))
+returns c = λ e. chain_end 15 _ (λ k h. c.loop-k.invariant e k (omega arith))

@@ -1,11 +1,8 @@
 use mathlib.Core.Path.{◌≡◌}
 use mathlib.Core.Bool.{true}
-use Prim.Native.Nat.{ℕ, ◌-◌, ◌≤◌, ◌<◌}
+use Prim.Native.Nat.{ℕ, ◌<◌}
 use Rattle.dpcch.specs.Outcome.{slot_digits}
 use Rattle.dpcch_frame_read.proofs.slots.all_fit.Given as goal
 
 abbrev pub invariant-loop-k : goal.invariant-loop-k
-invariant-loop-k l = (l.k ≤ 15) × (l.good ≡ true → (j : ℕ) → j < l.k → (slot_digits l.format l.xs j).number ≡ 0)
-
-abbrev pub decreases-loop-k : goal.decreases-loop-k
-decreases-loop-k l = 15 - l.k
+invariant-loop-k l = l.good ≡ true → (j : ℕ) → j < l.k → (slot_digits l.format l.xs j).number ≡ 0

@@ -18,8 +18,5 @@ overflow_add-a-2 c = omega (arith, sums (goal.at.overflow_add-a-2 c).Start)
 pub bounds-xs-a : goal.bounds-xs-a
 bounds-xs-a c = omega (arith, sums (goal.at.bounds-xs-a c).Start, c.requires.0.slot_ok, c.requires.1)
 
-pub overflow_cast-result : goal.overflow_cast-result
-overflow_cast-result c = omega (arith, c.shared_slice_known-1.given (c.args.f.pilot + c.args.f.tfci + c.args.f.fbi))
-
 pub returns : goal.returns
 returns c = command_at _ _ c.requires.0 c.requires.1

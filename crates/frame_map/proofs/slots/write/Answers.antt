@@ -1,6 +1,6 @@
 -- `frame_map::slots::write` meets its contract: each turn writes one slot more.
 use mathlib.Core.Path.{◌≡◌, sym, ◌∙◌}
-use Prim.Native.Nat.{◌+◌, ◌-◌, ◌*◌, ◌≤◌}
+use Prim.Native.Nat.{◌+◌, ◌*◌, ◌≤◌}
 use native.Mathlib.Nat.{zero-mul}
 use native.Mathlib.Omega.{arith}
 use Rattle.run.proofs.Front.{front_none, front_length, front_all}
@@ -17,7 +17,7 @@ rooms : (c : In-loop-slot)
 rooms c = (part_room _ 15 _ c.loop-slot-test.true, part_room _ 15 _ c.loop-slot-test.true, part_room _ 15 _ c.loop-slot-test.true)
 
 pub loop-slot-init : goal.loop-slot-init
-loop-slot-init c = (omega arith, rw zero-mul (front_none (frame_length _ _ _ _ c.requires.fields.data_ok c.requires.fields.tfci_ok ∙ sym c.requires.frame_ok)))
+loop-slot-init c = (rw zero-mul (front_none (frame_length _ _ _ _ c.requires.fields.data_ok c.requires.fields.tfci_ok ∙ sym c.requires.frame_ok)))
 
 pub overflow_mul-a : goal.overflow_mul-a
 overflow_mul-a c = omega (arith, rooms (c), c.sizes_of-s.ensures)
@@ -53,25 +53,22 @@ pub slice_bounds-put-end-in-loop-slot : goal.slice_bounds-put-end-in-loop-slot
 slice_bounds-put-end-in-loop-slot c = omega (arith, rooms (goal.at.slice_bounds-put-end-in-loop-slot c).In-loop-slot, c.sizes_of-s.ensures, c.requires)
 
 pub slice_bounds-put-start-in-loop-slot-2 : goal.slice_bounds-put-start-in-loop-slot-2
-slice_bounds-put-start-in-loop-slot-2 c = omega (arith, rooms (goal.at.slice_bounds-put-start-in-loop-slot-2 c).In-loop-slot, c.sizes_of-s.ensures, c.requires, front_length c.loop-slot.invariant.1)
+slice_bounds-put-start-in-loop-slot-2 c = omega (arith, rooms (goal.at.slice_bounds-put-start-in-loop-slot-2 c).In-loop-slot, c.sizes_of-s.ensures, c.requires, front_length c.loop-slot.invariant)
 
 pub slice_bounds-put-end-in-loop-slot-2 : goal.slice_bounds-put-end-in-loop-slot-2
-slice_bounds-put-end-in-loop-slot-2 c = omega (arith, rooms (goal.at.slice_bounds-put-end-in-loop-slot-2 c).In-loop-slot, c.sizes_of-s.ensures, c.requires, front_length c.loop-slot.invariant.1)
+slice_bounds-put-end-in-loop-slot-2 c = omega (arith, rooms (goal.at.slice_bounds-put-end-in-loop-slot-2 c).In-loop-slot, c.sizes_of-s.ensures, c.requires, front_length c.loop-slot.invariant)
 
 pub loop-slot-preserved : goal.loop-slot-preserved
 loop-slot-preserved c =
-    let s = c.sizes_of-s.ensures in (
-      omega arith,
-      slot_written _ _ _ c.args.commands.now _ _ _ _ _ _ _ c.requires c.loop-slot-test.true s.data_is s.tfci_is s.slot_is c.loop-slot.invariant.1
-          c.put.ensures.out_is,
-    )
+    let s = c.sizes_of-s.ensures in
+    slot_written _ _ _ c.args.commands.now _ _ _ _ _ _ _ c.requires c.loop-slot-test.true s.data_is s.tfci_is s.slot_is c.loop-slot.invariant c.put.ensures.out_is
 
 pub shape_of-out : goal.shape_of-out
-shape_of-out c = front_length c.loop-slot.invariant.1
+shape_of-out c = front_length c.loop-slot.invariant
 
 pub returns : goal.returns
 returns c =
     let all : c.loop-slot.slot ≡ 15 = omega arith in
     let end : c.loop-slot.slot * c.sizes_of-s.result.slot ≡ 15 * (format_of c.args.format).slot = rw (all, c.sizes_of-s.ensures.slot_is) in
     let room = c.requires.frame_ok in
-    front_all c.loop-slot.invariant.1 (omega arith)
+    front_all c.loop-slot.invariant (omega arith)

@@ -1,13 +1,13 @@
 -- `frame_read::slots::take` meets its contract: each turn takes the fields of one slot more.
 use mathlib.Core.Path.{◌≡◌, sym, ◌∙◌}
-use Prim.Native.Nat.{◌+◌, ◌-◌, ◌*◌, ◌≤◌}
+use Prim.Native.Nat.{◌+◌, ◌*◌, ◌≤◌}
 use native.Mathlib.Nat.{zero-mul}
 use native.Mathlib.Omega.{arith}
 use Rattle.run.proofs.Front.{front_none, front_length, front_store, front_all}
 use Rattle.run.proofs.Parts.{part_room}
 use Rattle.dpch.specs.Formats.{format_of}
 use Rattle.slot.specs.Rule.{data_size}
-use Rattle.frame.proofs.Laws.{data_in_length, tfci_in_length, commands_in_length, command_of, slot_back}
+use Rattle.frame.proofs.Laws.{data_in_length, tfci_in_length, commands_in_length, command_of, unwrapped, slot_back}
 use Rattle.frame_read.proofs.slots.take.Goals as goal
 use Rattle.frame_read.proofs.slots.take.Goals.{In-loop-k}
 
@@ -21,7 +21,6 @@ pub loop-k-init : goal.loop-k-init
 loop-k-init c =
     let room = c.requires.0 in
     let long = room.frame_ok in (
-      omega arith,
       rw zero-mul (front_none (data_in_length _ _ long ∙ sym room.fields.data_ok)),
       rw zero-mul (front_none (tfci_in_length _ _ long ∙ sym room.fields.tfci_ok)),
       front_none (commands_in_length _ _ long ∙ sym room.fields.commands_ok),
@@ -52,16 +51,16 @@ pub slice_bounds-take-end : goal.slice_bounds-take-end
 slice_bounds-take-end c = omega (arith, rooms (c), c.sizes_of-s.ensures, c.requires.0)
 
 pub slice_bounds-take-start-in-loop-k : goal.slice_bounds-take-start-in-loop-k
-slice_bounds-take-start-in-loop-k c = omega (arith, rooms (goal.at.slice_bounds-take-start-in-loop-k c).In-loop-k, c.sizes_of-s.ensures, c.requires.0, front_length c.loop-k.invariant.1)
+slice_bounds-take-start-in-loop-k c = omega (arith, rooms (goal.at.slice_bounds-take-start-in-loop-k c).In-loop-k, c.sizes_of-s.ensures, c.requires.0, front_length c.loop-k.invariant.0)
 
 pub slice_bounds-take-end-in-loop-k : goal.slice_bounds-take-end-in-loop-k
-slice_bounds-take-end-in-loop-k c = omega (arith, rooms (goal.at.slice_bounds-take-end-in-loop-k c).In-loop-k, c.sizes_of-s.ensures, c.requires.0, front_length c.loop-k.invariant.1)
+slice_bounds-take-end-in-loop-k c = omega (arith, rooms (goal.at.slice_bounds-take-end-in-loop-k c).In-loop-k, c.sizes_of-s.ensures, c.requires.0, front_length c.loop-k.invariant.0)
 
 pub slice_bounds-take-start-in-loop-k-2 : goal.slice_bounds-take-start-in-loop-k-2
-slice_bounds-take-start-in-loop-k-2 c = omega (arith, rooms (goal.at.slice_bounds-take-start-in-loop-k-2 c).In-loop-k, c.sizes_of-s.ensures, c.requires.0, front_length c.loop-k.invariant.2)
+slice_bounds-take-start-in-loop-k-2 c = omega (arith, rooms (goal.at.slice_bounds-take-start-in-loop-k-2 c).In-loop-k, c.sizes_of-s.ensures, c.requires.0, front_length c.loop-k.invariant.1)
 
 pub slice_bounds-take-end-in-loop-k-2 : goal.slice_bounds-take-end-in-loop-k-2
-slice_bounds-take-end-in-loop-k-2 c = omega (arith, rooms (goal.at.slice_bounds-take-end-in-loop-k-2 c).In-loop-k, c.sizes_of-s.ensures, c.requires.0, front_length c.loop-k.invariant.2)
+slice_bounds-take-end-in-loop-k-2 c = omega (arith, rooms (goal.at.slice_bounds-take-end-in-loop-k-2 c).In-loop-k, c.sizes_of-s.ensures, c.requires.0, front_length c.loop-k.invariant.1)
 
 pub overflow_cast-commands : goal.overflow_cast-commands
 overflow_cast-commands c =
@@ -72,12 +71,12 @@ overflow_cast-commands c =
     let l = c.loop-k in
     let t = c.take-taken.ensures in
     let b =
-    slot_back a.format a.xs.now a.«data».now a.tfci.now a.commands.now l.«data» l.tfci _ _ _ _ room h s.data_is s.tfci_is s.slot_is l.invariant.1 l.invariant.2 _ _ _ t
+    slot_back a.format a.xs.now a.«data».now a.tfci.now a.commands.now l.«data» l.tfci _ _ _ _ room h s.data_is s.tfci_is s.slot_is l.invariant.0 l.invariant.1 _ _ _ t
     in
-    omega (arith, b.command_back, command_of a.format a.xs.now room.frame_ok _ h, c.requires.1.bit _ h)
+    omega (arith, c.unwrap_or.ensures ∙ unwrapped c.take-taken.result ∙ b.command_back, command_of a.format a.xs.now room.frame_ok _ h, c.requires.1.bit _ h)
 
 pub bounds-commands-k : goal.bounds-commands-k
-bounds-commands-k c = omega (arith, front_length c.loop-k.invariant.3, c.requires.0)
+bounds-commands-k c = omega (arith, front_length c.loop-k.invariant.2, c.requires.0)
 
 pub loop-k-preserved : goal.loop-k-preserved
 loop-k-preserved c =
@@ -88,22 +87,21 @@ loop-k-preserved c =
     let l = c.loop-k in
     let t = c.take-taken.ensures in
     let b =
-    slot_back a.format a.xs.now a.«data».now a.tfci.now a.commands.now l.«data» l.tfci _ _ _ _ room h s.data_is s.tfci_is s.slot_is l.invariant.1 l.invariant.2 _ _ _ t
+    slot_back a.format a.xs.now a.«data».now a.tfci.now a.commands.now l.«data» l.tfci _ _ _ _ room h s.data_is s.tfci_is s.slot_is l.invariant.0 l.invariant.1 _ _ _ t
     in (
-      omega arith,
       b.data_back,
       b.tfci_back,
-      front_store 0 l.invariant.3 (omega (arith, front_length l.invariant.3, room)) b.command_back,
+      front_store 0 l.invariant.2 (omega (arith, front_length l.invariant.2, room)) (c.unwrap_or.ensures ∙ unwrapped c.take-taken.result ∙ b.command_back),
     )
 
 pub shape_of-data : goal.shape_of-data
-shape_of-data c = front_length c.loop-k.invariant.1
+shape_of-data c = front_length c.loop-k.invariant.0
 
 pub shape_of-tfci : goal.shape_of-tfci
-shape_of-tfci c = front_length c.loop-k.invariant.2
+shape_of-tfci c = front_length c.loop-k.invariant.1
 
 pub shape_of-commands : goal.shape_of-commands
-shape_of-commands c = front_length c.loop-k.invariant.3
+shape_of-commands c = front_length c.loop-k.invariant.2
 
 pub returns : goal.returns
 returns c =
@@ -115,4 +113,4 @@ returns c =
     let d = room.fields.data_ok in
     let t = room.fields.tfci_ok in
     let n = room.fields.commands_ok in
-    (front_all c.loop-k.invariant.1 (omega arith), front_all c.loop-k.invariant.2 (omega arith), front_all c.loop-k.invariant.3 (omega arith))
+    (front_all c.loop-k.invariant.0 (omega arith), front_all c.loop-k.invariant.1 (omega arith), front_all c.loop-k.invariant.2 (omega arith))

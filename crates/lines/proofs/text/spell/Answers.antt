@@ -1,6 +1,5 @@
 -- `lines::text::spell` meets its contract: the laws of writing from the front.
 use mathlib.Core.Path.{sym, ◌∙◌}
-use Prim.Native.Nat.{◌-◌}
 use native.Mathlib.Omega.{arith}
 use Rattle.run.proofs.Front.{front_none, front_length, front_store, front_all}
 use Rattle.lines.proofs.Words.{glyphs_length, glyphs_at}
@@ -14,8 +13,7 @@ bounds-out-i c = omega (arith, front_length c.loop-i.invariant)
 
 pub loop-i-preserved : goal.loop-i-preserved
 loop-i-preserved c =
-    let head = c in
-    front_store 0 head.loop-i.invariant (omega (arith, front_length head.loop-i.invariant)) (c.glyph.ensures ∙ sym (glyphs_at _ _ (omega arith)))
+    front_store 0 c.loop-i.invariant (omega (arith, front_length c.loop-i.invariant)) (c.glyph.ensures ∙ sym (glyphs_at _ _ (omega arith)))
 
 pub shape_of-out : goal.shape_of-out
 shape_of-out c = front_length c.loop-i.invariant

@@ -1,61 +1,86 @@
--- `slot_check::fields::check` meets its contract: the chain of checks is the definition's, field by field.
-use mathlib.Core.Path.{◌≡◌, refl, sym}
-use Prim.Native.Nat.{◌+◌, ◌≤◌}
+-- `slot_check::fields::check` meets its contract: the checks are the definition's, field by field, and the first that refuses ends them.
+use mathlib.Core.Path.{refl, sym}
 use native.Mathlib.Omega.{arith}
 use lib.Dec.{lit<}
 use Rattle.run.specs.First.{like_first}
-use Rattle.run.proofs.Chain.{or_else_is, each_is}
+use Rattle.run.proofs.Answers.{stops, goes_on, found_each}
+use Rattle.run.proofs.Places.{above_first, unlike_first}
 use Rattle.run.proofs.Stretch.{check_field}
 use Rattle.dpch.specs.Formats.{widths}
 use Rattle.slot.specs.Rule.{tfci_stands}
-use Rattle.slot.specs.Outcome.{digits_verdict}
-use Rattle.slot.proofs.Laws.{sum, start_tpc, start_tfci, start_pilot}
-use Rattle.slot_check.proofs.Laws.{check_pilot}
+use Rattle.slot.specs.Outcome.{part_verdict, digits_verdict}
+use Rattle.slot.proofs.Laws.{start_tpc, start_tfci, start_pilot, mixed_first}
+use Rattle.slot_check.proofs.Laws.{whole, sums, check_pilot}
 use Rattle.slot_check.proofs.fields.check.Goals as goal
-use Rattle.slot_check.proofs.fields.check.Goals.{Start}
 
-sums : (c : Start) → (c.args.f.data1 + c.args.f.tpc + c.args.f.tfci + c.args.f.data2 + c.args.f.pilot ≡ c.args.f.slot) × (c.args.f.slot ≤ 1280)
-sums c = (sum _ c.requires.sound, c.requires.sound.short)
+pub returns-in_err-require : goal.returns-in_err-require
+unfolding part_verdict
+returns-in_err-require c = stops _ _ _ c.from_residual.ensures.1 c.in_err-require.ensures
+
+pub returns-in_err-refused_at : goal.returns-in_err-refused_at
+unfolding part_verdict digits_verdict
+returns-in_err-refused_at c =
+    goes_on c.in_ok-require.ensures
+    (stops _ _ _ c.from_residual-in_err-refused_at.ensures.1
+    (found_each _ _ _ _ c.above.result (above_first _ _ c.above.ensures) c.in_err-refused_at.ensures))
 
 pub overflow_add-b : goal.overflow_add-b
-overflow_add-b c = omega (arith, sums (goal.at.overflow_add-b c).Start)
-
-pub overflow_add-c : goal.overflow_add-c
-overflow_add-c c = omega (arith, sums (goal.at.overflow_add-c c).Start)
-
-pub overflow_add-d : goal.overflow_add-d
-overflow_add-d c = omega (arith, sums (goal.at.overflow_add-d c).Start)
-
-pub overflow_add-e : goal.overflow_add-e
-overflow_add-e c = omega (arith, sums (goal.at.overflow_add-e c).Start)
-
-pub slice_bounds-pilot-end : goal.slice_bounds-pilot-end
-slice_bounds-pilot-end c = omega (arith, sums (goal.at.slice_bounds-pilot-end c).Start)
-
-pub placed-last-requires : goal.placed-last-requires
-placed-last-requires c = omega (arith, sums (goal.at.placed-last-requires c).Start)
-
-pub slice_bounds-tfci-end : goal.slice_bounds-tfci-end
-slice_bounds-tfci-end c = omega (arith, sums (goal.at.slice_bounds-tfci-end c).Start)
-
-pub placed-requires : goal.placed-requires
-placed-requires c = omega (arith, sums (goal.at.placed-requires c).Start)
+overflow_add-b c = omega (arith, sums _ _ c.requires c.in_ok-require.ensures)
 
 pub slice_bounds-tpc-end : goal.slice_bounds-tpc-end
-slice_bounds-tpc-end c = omega (arith, sums (goal.at.slice_bounds-tpc-end c).Start)
+slice_bounds-tpc-end c = omega (arith, sums _ _ c.requires c.in_ok-require.ensures)
+
+pub placed-requires : goal.placed-requires
+placed-requires c = omega (arith, sums _ _ c.requires c.in_ok-require.ensures)
+
+pub returns-in_err-placed : goal.returns-in_err-placed
+unfolding part_verdict digits_verdict
+returns-in_err-placed c =
+    let f = c.args.f in
+    goes_on c.in_ok-require.ensures
+    (goes_on (found_each _ _ _ _ c.above.result (above_first _ _ c.above.ensures) c.in_ok-refused_at.ensures)
+    (stops _ _ _ c.from_residual-in_err-placed.ensures.1
+    (check_field (widths f) c.args.xs.now 1 _ _ (lit< tt) (sym (start_tpc f)) refl _ _ like_first _ _ (unlike_first _ c.unlike.ensures) c.in_err-placed.ensures)))
+
+pub overflow_add-c : goal.overflow_add-c
+overflow_add-c c = omega (arith, sums _ _ c.requires c.in_ok-require.ensures)
+
+pub slice_bounds-tfci-end : goal.slice_bounds-tfci-end
+slice_bounds-tfci-end c = omega (arith, sums _ _ c.requires c.in_ok-require.ensures)
 
 pub placed-requires-2 : goal.placed-requires-2
-placed-requires-2 c = omega (arith, sums (goal.at.placed-requires-2 c).Start)
+placed-requires-2 c = omega (arith, sums _ _ c.requires c.in_ok-require.ensures)
+
+pub returns-in_err-placed-2 : goal.returns-in_err-placed-2
+unfolding part_verdict digits_verdict
+returns-in_err-placed-2 c =
+    let f = c.args.f in
+    let xs = c.args.xs.now in
+    goes_on c.in_ok-require.ensures
+    (goes_on (found_each _ _ _ _ c.above.result (above_first _ _ c.above.ensures) c.in_ok-refused_at.ensures)
+    (goes_on (check_field (widths f) xs 1 _ _ (lit< tt) (sym (start_tpc f)) refl _ _ like_first _ _ (unlike_first _ c.unlike.ensures) c.in_ok-placed.ensures)
+    (stops _ _ _ c.from_residual-in_err-placed-2.ensures.1
+    (check_field (widths f) xs 2 _ _ (lit< tt) (sym (start_tfci f)) refl _ _ tfci_stands _ _ (mixed_first _ c.first_mixed.ensures) c.in_err-placed-2.ensures))))
+
+pub overflow_add-d : goal.overflow_add-d
+overflow_add-d c = omega (arith, sums _ _ c.requires c.in_ok-require.ensures)
+
+pub overflow_add-pilot : goal.overflow_add-pilot
+overflow_add-pilot c = omega (arith, sums _ _ c.requires c.in_ok-require.ensures)
+
+pub slice_bounds-pilot-end : goal.slice_bounds-pilot-end
+slice_bounds-pilot-end c = omega (arith, sums _ _ c.requires c.in_ok-require.ensures)
+
+pub placed-requires-3 : goal.placed-requires-3
+placed-requires-3 c = omega (arith, sums _ _ c.requires c.in_ok-require.ensures)
 
 pub returns : goal.returns
-unfolding digits_verdict
+unfolding part_verdict digits_verdict
 returns c =
-    let a = c.args in
-    let f = a.f in
-    let xs = a.xs.now in
-    or_else_is c.or_else.ensures (each_is _ _ _ _ _ _ c.first_above.ensures c.found.ensures)
-    (or_else_is c.or_else-commands.ensures
-    (check_field (widths f) xs 1 _ _ (lit< tt) (sym (start_tpc f)) refl _ _ like_first _ _ c.first_unlike.ensures c.placed-2.ensures)
-    (or_else_is c.or_else-kinds.ensures
-    (check_field (widths f) xs 2 _ _ (lit< tt) (sym (start_tfci f)) refl _ _ tfci_stands _ _ c.first_mixed.ensures c.placed.ensures)
-    (check_pilot f xs c.requires a.slot _ _ (sym (start_pilot f)) refl _ _ _ _ c.pilot_differs.ensures c.placed-last.ensures)))
+    let f = c.args.f in
+    let xs = c.args.xs.now in
+    goes_on c.in_ok-require.ensures
+    (goes_on (found_each _ _ _ _ c.above.result (above_first _ _ c.above.ensures) c.in_ok-refused_at.ensures)
+    (goes_on (check_field (widths f) xs 1 _ _ (lit< tt) (sym (start_tpc f)) refl _ _ like_first _ _ (unlike_first _ c.unlike.ensures) c.in_ok-placed.ensures)
+    (goes_on (check_field (widths f) xs 2 _ _ (lit< tt) (sym (start_tfci f)) refl _ _ tfci_stands _ _ (mixed_first _ c.first_mixed.ensures) c.in_ok-placed-2.ensures)
+    (check_pilot f xs (whole _ c.requires c.in_ok-require.ensures) c.args.slot _ _ (sym (start_pilot f)) refl _ _ c.pilot_differs.result c.pilot_differs.ensures c.placed-3.ensures))))

@@ -1,9 +1,0 @@
--- `desk_serve::is_number` meets its contract.
-use borrow.Author.Tests.{le-leb, lt-leb}
-use Rattle.desk_serve.proofs.is_number.Goals as goal
-
-pub returns-then-n-lt1 : goal.returns-then-n-lt1
-returns-then-n-lt1 c = rw (lt-leb 1 c.args.n c.if-n-lt1.true)
-
-pub returns : goal.returns
-returns c = rw (le-leb 1 c.args.n c.if-n-lt1.false)

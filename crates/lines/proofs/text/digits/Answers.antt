@@ -1,9 +1,0 @@
--- `lines::text::digits` meets its contract.
-use mathlib.Core.Path.{sym, ap}
-use Prim.Native.Nat.{◌+◌}
-use Rattle.lines.proofs.Words.{glyphs_length}
-use Rattle.lines.proofs.Put.{wrote_lent}
-use Rattle.lines.proofs.text.digits.Goals as goal
-
-pub returns : goal.returns
-returns c = wrote_lent _ _ _ _ _ (ap (λ n. c.args.at + n) (sym (glyphs_length _))) c.spell.ensures
