@@ -22,6 +22,27 @@ use Rattle.bank.proofs.Front.{room_low}
 use Rattle.bank.proofs.Reading.{bank_holds, holds_fits}
 use Rattle.bank.proofs.Split.{has_digits, Present, present, start_is, split_taken}
 
+-- ---- a check of the bytes, and the rest of a chain, which is asked only where they are a bank
+unless_bank : (bytes : List ℕ) (v w : Verdict) → (is_bank bytes ≡ true → v ≡ w) → or_else (unless (is_bank bytes) 28 0) v ≡ or_else (unless (is_bank bytes) 28 0) w
+unfolding or_else unless
+unless_bank bytes v w same = side (is_bank bytes) refl
+  where
+    side : (b : Bool) → is_bank bytes ≡ b → cond (eqb (cond b done (record { number = 28; place = 0 })).number 0) v (cond b done (record { number = 28; place = 0 }))
+        ≡ cond (eqb (cond b done (record { number = 28; place = 0 })).number 0) w (cond b done (record { number = 28; place = 0 }))
+    side true e = same e
+    side false e = refl
+
+-- drop's checks by the number of digits that is told: 0 where there is no such slot
+module _ (bytes : List ℕ) (number : ℕ) where
+  pub drop_verdict_lem : (n : ℕ) → (is_bank bytes ≡ true → n ≡ length (fetched number (slots_in bytes)))
+      → or_else (unless (is_bank bytes) 28 0) (or_else (unless (is_number number) 11 0) (unless (ltb 0 n) 29 0)) ≡ drop_verdict bytes number
+  unfolding drop_verdict drop_plain
+  drop_verdict_lem n told =
+      unless_bank bytes _ _
+      (λ e.
+      ap (λ (b : Bool). or_else (unless (is_number number) 11 0) (unless b 29 0))
+      (ap (ltb 0) (told e) ∙ sym (has_digits number (slots_in bytes) (bank_holds bytes e).list)))
+
 module _ (bytes : List ℕ) (number : ℕ) (found : Found) (f : Find bytes number found) (e : is_bank bytes ≡ true) where
   pub found_total : found.total ≡ taken (slots_in bytes)
   found_total = f.total_is ∙ rw e

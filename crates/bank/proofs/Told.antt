@@ -99,6 +99,10 @@ module _ (bytes : List ℕ) where
     unfolding looked
     looked_start e = ap (λ l. l.start) (given_ok (is_bank bytes) _ e).1
 
+    pub looked_none : {r : Refusal} → Err r ≡ looked bytes number → is_bank bytes ≡ false
+    unfolding looked
+    looked_none e = (given_err (is_bank bytes) _ e).0
+
     pub start_there : {i : ℕ} → has number (slots_in bytes) ≡ true → i ≡ place_of number (slots_in bytes) → Some i ≡ cond (has number (slots_in bytes)) (Some (place_of number (slots_in bytes))) None
     start_there t e = rw (t, e)
 

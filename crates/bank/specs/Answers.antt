@@ -6,6 +6,7 @@ use Rattle.run.specs.declared.refusal.Refusal.{Refusal}
 use Rattle.run.specs.Answers.{number_of, verdict_of, value_of}
 use Rattle.run.specs.Verdicts.{refused, done}
 use Rattle.bank.specs.declared.Place.{Place}
+use Rattle.bank.specs.declared.Found.{Found as Told}
 use Rattle.bank.specs.Slots.{fetched, taken}
 use Rattle.bank.specs.Layout.{slots_in, is_bank, place_of}
 
@@ -17,12 +18,9 @@ pub record Counted : Type 0 where
 abbrev pub counted_of : Result ℕ Refusal → Counted
 counted_of answer = record { verdict = verdict_of answer; count = value_of answer }
 
--- what the search for a slot tells: whether it is there, the total taken, where the slot begins and how many digits it has
-pub record Found : Type 0 where
-  pub verdict : Verdict
-  pub total : ℕ
-  pub start : ℕ
-  pub length : ℕ
+-- what the search for a slot tells: whether it is there, the total taken, where the slot begins and how many digits it has. The code declares the record, with these four fields
+abbrev pub Found : Type 0
+Found = Told
 
 -- .. of a slot that is there; where the search refuses, the numbers are those of the bytes that it was lent
 abbrev pub found_of : List ℕ → ℕ → Result Place Refusal → Found

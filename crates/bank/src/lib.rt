@@ -8,6 +8,8 @@ ghost use Rattle.bank.specs.Slots.{is_length};
 ghost use Rattle.bank.specs.Layout.{head, four_at, is_room};
 ghost use Rattle.bank.specs.Outcome.{nonzero, head_total, front_length};
 
+use run::verdict::Verdict;
+
 // A bank that was looked through for a slot: the total taken, and where the slot begins, if it is there.
 #[derive(Clone, Copy)]
 pub struct Looked {
@@ -18,6 +20,15 @@ pub struct Looked {
 // A slot that is there: the total taken, where the slot begins and how many digits it has.
 #[derive(Clone, Copy)]
 pub struct Place {
+    pub total: usize,
+    pub start: usize,
+    pub length: usize,
+}
+
+// What the search for a slot answers: whether it is there, the total taken, where the slot begins and how many digits it has.
+#[derive(Clone, Copy)]
+pub struct Found {
+    pub verdict: Verdict,
     pub total: usize,
     pub start: usize,
     pub length: usize,

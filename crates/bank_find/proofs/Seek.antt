@@ -1,7 +1,7 @@
 -- The search from slot to slot: what its loop keeps, and what stands where it ends.
 -- Assumes nothing.
 use mathlib.Core.Path.{◌≡◌, refl, sym, ap, ◌∙◌}
-use mathlib.Core.Bool.{Bool, true, false}
+use mathlib.Core.Bool.{Bool, true, false, cond}
 use mathlib.Core.List.{List, [], ◌∷◌, ◌++◌, append_assoc, append-nil}
 use Prim.Native.Nat.{ℕ, ◌+◌, ◌-◌, ◌≤◌, ◌<◌}
 use native.Mathlib.Nat.{add-zero}
@@ -9,6 +9,8 @@ use native.Mathlib.Omega.{arith}
 use borrow.Author.Tests.{eq-eqb, ne_eqb}
 use lib.ListN.{length, get_or, take, drop, length-append}
 use lib.Seq.{get_or-take, get_or-drop}
+use Rattle.std.specs.Option.{unwrap_or}
+use Rattle.std.specs.Prelude.{Option, Some, None}
 use Rattle.run.specs.Fields.{total}
 use Rattle.bank.specs.Slots.{Slot, has, fetched, taken}
 use Rattle.bank.specs.Layout.{slot_bytes, run, slots_in, is_bank, place_from, place_of}
@@ -141,6 +143,16 @@ module _ (bytes : List ℕ) (number : ℕ) (e : is_bank bytes ≡ true) where
           let all = ap taken p.whole ∙ taken_append p.before (p.slot ∷ p.behind) in
           omega arith
       side false t = let at = (absent number (slots_in bytes) t).place_end 8 in omega arith
+
+  -- where a slot is told to begin: at its place, and at the total where there is none
+  pub place_told : {o : Option ℕ} {n : ℕ} → o ≡ cond (has number (slots_in bytes)) (Some (place_of number (slots_in bytes))) None → n ≡ taken (slots_in bytes)
+      → unwrap_or o n ≡ place_of number (slots_in bytes)
+  unfolding taken
+  place_told {o} {n} s t = rw s (side (has number (slots_in bytes)) refl)
+    where
+      side : (b : Bool) → has number (slots_in bytes) ≡ b → unwrap_or (cond b (Some (place_of number (slots_in bytes))) None) n ≡ place_of number (slots_in bytes)
+      side true w = refl
+      side false w = t ∙ sym ((absent number (slots_in bytes) w).place_end 8)
 
   pub length_found : front_length (take (taken (slots_in bytes) - place_of number (slots_in bytes)) (drop (place_of number (slots_in bytes)) bytes)) ≡ length (fetched number (slots_in bytes))
   unfolding taken

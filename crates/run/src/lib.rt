@@ -1,4 +1,4 @@
-// Verdicts and their order, and what is said of runs of digits. No channel's rule stands here.
+// Checks and what they refuse with, and what is said of runs of digits. No channel's rule stands here.
 #![tactic(auto)]
 
 ghost use Rattle.std.specs.List.{position};
@@ -8,8 +8,10 @@ ghost use Rattle.run.specs.Answers.{number_of, verdict_of};
 ghost use Rattle.run.specs.Verdicts.{or_else, unless, lengths};
 
 pub mod refusal;
+pub mod verdict;
 
 pub use refusal::{Reason, Refusal};
+pub use verdict::{Verdict, found, or_else, unless};
 
 // DTX as a digit: nothing is sent (docs/RULES.md, 'Digits').
 pub const DTX: u8 = 2;
