@@ -34,49 +34,53 @@ impl From<Gain> for Complex {
     }
 }
 
+// A complex number in a sum of products. The operators take what cannot overflow, so they are this private type's: nothing public has a bound.
+#[derive(Clone, Copy)]
+struct Number(Complex);
+
 // A gain times a symbol.
-impl Mul for Complex {
-    type Output = Complex;
+impl Mul for Number {
+    type Output = Number;
 
-    ghost can_mul = { λ h z. Small 32768 h × Small 2147483648 z };
+    ghost can_mul = { λ h z. Small 32768 h.0 × Small 2147483648 z.0 };
 
-    ghost mul_gives = { λ h z r. r ≡ h ⊠ z };
+    ghost mul_gives = { λ h z r. r.0 ≡ h.0 ⊠ z.0 };
 
-    fn mul(self, z: Complex) -> Complex {
-        Complex {
-            re: self.re * z.re - self.im * z.im,
-            im: self.re * z.im + self.im * z.re,
-        }
+    fn mul(self, z: Number) -> Number {
+        Number(Complex {
+            re: self.0.re * z.0.re - self.0.im * z.0.im,
+            im: self.0.re * z.0.im + self.0.im * z.0.re,
+        })
     }
 }
 
-impl Add for Complex {
-    type Output = Complex;
+impl Add for Number {
+    type Output = Number;
 
-    ghost can_add = { λ z w. Small 140737488355328 z × Small 140737488355328 w };
+    ghost can_add = { λ z w. Small 140737488355328 z.0 × Small 140737488355328 w.0 };
 
-    ghost add_gives = { λ z w r. r ≡ z ⊞ w };
+    ghost add_gives = { λ z w r. r.0 ≡ z.0 ⊞ w.0 };
 
-    fn add(self, w: Complex) -> Complex {
-        Complex {
-            re: self.re + w.re,
-            im: self.im + w.im,
-        }
+    fn add(self, w: Number) -> Number {
+        Number(Complex {
+            re: self.0.re + w.0.re,
+            im: self.0.im + w.0.im,
+        })
     }
 }
 
-impl Sub for Complex {
-    type Output = Complex;
+impl Sub for Number {
+    type Output = Number;
 
-    ghost can_sub = { λ z w. Small 140737488355328 z × Small 140737488355328 w };
+    ghost can_sub = { λ z w. Small 140737488355328 z.0 × Small 140737488355328 w.0 };
 
-    ghost sub_gives = { λ z w r. r ≡ z ⊟ w };
+    ghost sub_gives = { λ z w r. r.0 ≡ z.0 ⊟ w.0 };
 
-    fn sub(self, w: Complex) -> Complex {
-        Complex {
-            re: self.re - w.re,
-            im: self.im - w.im,
-        }
+    fn sub(self, w: Number) -> Number {
+        Number(Complex {
+            re: self.0.re - w.0.re,
+            im: self.0.im - w.0.im,
+        })
     }
 }
 
@@ -93,7 +97,8 @@ fn first_of(h1: Complex, h2: Complex, r1: Complex, r2: Complex) -> Complex
     requires { Small 32768 h1 × Small 32768 h2 × Small 2147483648 r1 × Small 2147483648 r2 }
     ensures { result ≡ t1 h1 h2 r1 r2 }
 {
-    conj(h1) * r1 + h2 * conj(r2)
+    let t = Number(conj(h1)) * Number(r1) + Number(h2) * Number(conj(r2));
+    t.0
 }
 
 // T2 of a pair.
@@ -101,7 +106,8 @@ fn second_of(h1: Complex, h2: Complex, r1: Complex, r2: Complex) -> Complex
     requires { Small 32768 h1 × Small 32768 h2 × Small 2147483648 r1 × Small 2147483648 r2 }
     ensures { result ≡ t2 h1 h2 r1 r2 }
 {
-    conj(h1) * r2 - h2 * conj(r1)
+    let t = Number(conj(h1)) * Number(r2) - Number(h2) * Number(conj(r1));
+    t.0
 }
 
 // Symbol k of a run of real and imaginary parts in turn.

@@ -15,7 +15,7 @@ use Rattle.run.specs.Verdicts.{refused, done, or_else, leaves}
 use Rattle.run.specs.Answers.{number_of, verdict_of, value_of}
 use Rattle.run.specs.declared.refusal.Refusal.{Refusal}
 use Rattle.run.proofs.Answers.{refuses, handed, left, written}
-use Rattle.std.specs.Prelude.{Result, Ok, Err}
+use Rattle.std.specs.Prelude.{Result, Ok, Err, IfOk}
 use Rattle.std.specs.Result.{IsErrAnd}
 use Rattle.pich.specs.Outcome.{Read}
 use Rattle.wake.specs.Exact.{simulated}
@@ -160,6 +160,12 @@ module _ (np pi : ℕ) (t : Tally) (frame : List ℕ) where
     where
       one : ◌≡◌ {A = Tally} (record { read = t.read + 1; woke = t.woke + cond (eqb (get_or (indicators_in np frame) (q_of np pi t.next) 0) 1) 1 0; next = (t.next + 1) % 4096 }) (tally_at np pi t (λ (k : ℕ). frame) 1)
       one = same_tally refl (let z : t.woke + cond (eqb (get_or (indicators_in np frame) (q_of np pi t.next) 0) 1) 1 0 ≡ t.woke + (0 + cond (eqb (get_or (indicators_in np frame) (q_of np pi t.next) 0) 1) 1 0) = omega arith in z) refl
+
+-- a refusal that is handed on has no tally
+pub no_tally : {A : Type 0} (P : A → Type 0) (r : Result A Refusal) (x : Refusal) {v : Verdict} → IsErrAnd r (λ e. e ≡ x) → refused (number_of x.reason) x.place ≡ v
+    → (verdict_of r ≡ v) × IfOk r P
+no_tally P (Ok a) x h e = absurd h
+no_tally {A} P (Err y) x h e = (handed {A = A} (Err y) x h ∙ e, tt)
 
 -- an indicator of a frame, where the reader hands all of them back
 pub looked : (np q : ℕ) (digits before new rest : List ℕ) → q < np → length before ≡ np → Read np digits before done new

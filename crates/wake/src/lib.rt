@@ -1,12 +1,12 @@
 // When a handset wakes, frame by frame of recorded PICH frames: docs/RULES.md, 'Wake simulation'; TS 25.211, 5.3.3.10.
 #![tactic(auto)]
 
-ghost use Rattle.std.specs.Prelude.{◌+◌, ◌%◌, ◌<◌, ◌≡◌, true, cond, eqb, get_or};
+ghost use Rattle.std.specs.Prelude.{◌+◌, ◌%◌, ◌<◌, ◌≡◌, true, cond, eqb, get_or, IfOk};
 ghost use Rattle.run.specs.Answers.{value_of, verdict_of};
 ghost use Rattle.run.specs.Verdicts.{leaves};
 ghost use Rattle.pich.specs.Rule.{is_np, indicators_in};
 ghost use Rattle.pich.specs.Outcome.{read_verdict};
-ghost use Rattle.wake.specs.Outcome.{has_room, frame_head, Frame};
+ghost use Rattle.wake.specs.Outcome.{has_room, frame_head, frame_verdict, frame_tally, Frame};
 ghost use Rattle.wake.specs.Exact.{simulated};
 
 use pich::{Indicator, Pi};
@@ -26,17 +26,17 @@ pub struct Tally {
 
 // Neither count is at its end.
 #[tactic(auto, unfolding(crate::specs::Outcome::has_room))]
-fn has_room(tally: Tally) -> bool
-    ensures { result ≡ has_room tally.read tally.woke }
+fn has_room(read: u32, woke: u32) -> bool
+    ensures { result ≡ has_room read woke }
 {
-    tally.read < u32::MAX && tally.woke < u32::MAX
+    read < u32::MAX && woke < u32::MAX
 }
 
-fn check_head(frame_length: usize, tally: Tally) -> Result<(), Refusal>
-    ensures { verdict_of result ≡ frame_head tally.read tally.woke frame_length }
+fn check_head(frame_length: usize, read: u32, woke: u32) -> Result<(), Refusal>
+    ensures { verdict_of result ≡ frame_head read woke frame_length }
 {
     require(frame_length == 300, Reason::Length, 0)?;
-    require(has_room(tally), Reason::Count, 0)
+    require(has_room(read, woke), Reason::Count, 0)
 }
 
 // Indicator q of a frame, as the PICH reader hands it back.
@@ -50,24 +50,38 @@ fn look(np: usize, q: Indicator, digits: &[u8]) -> Result<u8, Refusal>
 }
 
 // The tally one frame on: 4095 is followed by 0.
-fn moved(tally: Tally, indicator: u8) -> Tally
-    requires { (tally.read < 4294967295) × (tally.woke < 4294967295) × (tally.next < 4096) }
-    ensures { result ≡ record { read = tally.read + 1; woke = tally.woke + cond (eqb indicator 1) 1 0; next = (tally.next + 1) % 4096 } }
+fn moved(read: u32, woke: u32, next: u32, indicator: u8) -> Tally
+    requires { (read < 4294967295) × (woke < 4294967295) × (next < 4096) }
+    ensures { result ≡ record { read = read + 1; woke = woke + cond (eqb indicator 1) 1 0; next = (next + 1) % 4096 } }
 {
     Tally {
-        read: tally.read + 1,
-        woke: tally.woke + u32::from(indicator == 1),
-        next: (tally.next + 1) % 4096,
+        read: read + 1,
+        woke: woke + u32::from(indicator == 1),
+        next: (next + 1) % 4096,
     }
 }
 
-// One frame: q of its SFN, the indicator there, and the tally moved on; or the refusal and the tally as it was.
+// The tally after one frame, of the three numbers before it: q of its SFN, the indicator there, and the numbers moved on.
+fn tally_after(
+    np: usize,
+    pi: usize,
+    digits: &[u8],
+    read: u32,
+    woke: u32,
+    next: u32,
+) -> Result<Tally, Refusal>
+    ensures { let t : Tally = record { read = read; woke = woke; next = next } in (verdict_of result ≡ frame_verdict np pi t digits.now) × IfOk result (λ u. u ≡ frame_tally np pi t digits.now) }
+{
+    check_head(digits.len(), read, woke)?;
+    let q = pich::q(np, Pi(pi), next as usize)?;
+    let indicator = look(np, q, digits)?;
+    Ok(moved(read, woke, next, indicator))
+}
+
+// One frame: a thin step over the three numbers, which stores the tally after it; where the frame is refused the tally is as it was.
 pub fn frame(np: usize, pi: usize, digits: &[u8], tally: &mut Tally) -> Result<(), Refusal>
     ensures { Frame np pi tally.old digits.now (simulated (verdict_of result) tally.new) }
 {
-    check_head(digits.len(), *tally)?;
-    let q = pich::q(np, Pi(pi), tally.next as usize)?;
-    let indicator = look(np, q, digits)?;
-    *tally = moved(*tally, indicator);
+    *tally = tally_after(np, pi, digits, tally.read, tally.woke, tally.next)?;
     Ok(())
 }

@@ -8,8 +8,8 @@ mul-requires c = let p = c.requires in (rw c.conj.ensures (small_conj p.0), p.2)
 pub mul-requires-2 : goal.mul-requires-2
 mul-requires-2 c = let p = c.requires in (p.1, rw c.conj-2.ensures (small_conj p.3))
 
-pub add-requires : goal.add-requires
-add-requires c =
+pub add-t-requires : goal.add-t-requires
+add-t-requires c =
     let p = c.requires in (
       rw (c.mul.ensures, c.conj.ensures) (small_times (small_conj p.0) p.2),
       rw (c.mul-2.ensures, c.conj-2.ensures) (small_times p.1 (small_conj p.3)),
@@ -18,7 +18,7 @@ add-requires c =
 pub returns : goal.returns
 returns c =
     rw (
-      c.add.ensures,
+      c.add-t.ensures,
       c.mul-2.ensures,
       c.conj-2.ensures,
       c.mul.ensures,

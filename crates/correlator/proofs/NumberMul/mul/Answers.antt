@@ -1,11 +1,11 @@
--- `correlator::ComplexMul::mul` meets its contract: each product is within 2 ^ 46, and a sum or difference of two within 2 ^ 47.
+-- `correlator::NumberMul::mul` meets its contract: each product is within 2 ^ 46, and a sum or difference of two within 2 ^ 47.
 use lib.Dec.{lit<}
 use lib.IntN.{ℤ, ◌*ℤ◌}
 use mir.Syntax.{w64}
 use mir.Val.{SFits, to_z, of_z}
 use Rattle.whole.specs.Bound.{Bounded}
 use Rattle.whole.proofs.Bits.{Reads, r_in, fits_sum, r_sum, fits_diff, r_diff, fits_product, r_product}
-use Rattle.correlator.proofs.ComplexMul.mul.Goals as goal
+use Rattle.correlator.proofs.NumberMul.mul.Goals as goal
 
 -- a part of the gain times a part of the symbol
 module _ {x y : ℤ} (p : Bounded 32768 x) (q : Bounded 2147483648 y) where
