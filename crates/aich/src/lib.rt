@@ -40,12 +40,11 @@ fn fold_four(a: i32, b: i32, c: i32, d: i32) -> [i32; 4]
 }
 
 // Two foldings at a time, with their places turned: entry k + 4t is entry 4k + t of what two foldings give. `n` is 4: the compiler does not know it, so that it keeps the loop
-// and goes four numbers at a time.
-fn columns(x: &[i32], n: usize) -> [i32; 16]
-    requires { Sixteen 16 x.now × (n ≡ 4) }
-    ensures { Turned 4 x.now result }
+// and goes four numbers at a time. They are lent: an answer with sixteen numbers in it would be copied.
+fn columns(x: &[i32], n: usize, y: &mut [i32])
+    requires { Sixteen 16 x.now × (n ≡ 4) × (length y.old ≡ 16) }
+    ensures { Turned 4 x.now y.new }
 {
-    let mut y = [0i32; 16];
     for k in 0..n {
         let folded = fold_four(x[k], x[k + 4], x[k + 8], x[k + 12]);
         y[k] = folded[0];
@@ -53,7 +52,6 @@ fn columns(x: &[i32], n: usize) -> [i32; 16]
         y[k + 8] = folded[2];
         y[k + 12] = folded[3];
     }
-    y
 }
 
 // Two foldings more are the sums over the signatures, and each sum is the value of a pair. The eight values of a row are stored together: by way of the sums the compiler stores them twice
@@ -64,7 +62,8 @@ fn write_values(indicators: &[i32], values: &mut [i32])
     ensures { values.new ≡ values_of indicators.now }
 {
     let n = indicators.len() / 4;
-    let y = columns(indicators, n);
+    let mut y = [0i32; 16];
+    columns(indicators, n, &mut y);
     for k in 0..n {
         let folded = fold_four(y[4 * k], y[4 * k + 1], y[4 * k + 2], y[4 * k + 3]);
         values[8 * k] = folded[0];
@@ -144,7 +143,7 @@ fn firsts(values: &[i32]) -> [i32; 16]
     firsts
 }
 
-// The sum of each signature over the pairs, by two foldings and two more. The sums are lent: an answer with sixteen numbers in it would be copied.
+// The sum of each signature over the pairs, by two foldings and two more. The sums are lent as `y` is.
 #[inline(never)]
 fn find_sums(values: &[i32], sums: &mut [i32])
     requires { Paired values.now × (length sums.old ≡ 16) }
@@ -152,7 +151,8 @@ fn find_sums(values: &[i32], sums: &mut [i32])
 {
     let n = values.len() / 8;
     let x = firsts(values);
-    let y = columns(&x, n);
+    let mut y = [0i32; 16];
+    columns(&x, n, &mut y);
     for k in 0..n {
         let folded = fold_four(y[4 * k], y[4 * k + 1], y[4 * k + 2], y[4 * k + 3]);
         sums[4 * k] = folded[0];

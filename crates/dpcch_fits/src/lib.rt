@@ -39,7 +39,9 @@ fn fits_as(format: usize, slot: usize, xs: &[u8]) -> bool
     xs.len() == f.slot && digits_fit(f, slot, xs)
 }
 
-// The same, of the table's formats; of any other it is not. Where the format is a number, so is the width of each field, and a field is one comparison.
+// The same, of the table's formats; of any other it is not. Where the format is a number, so is the width of each field, and a field is one comparison. Inlined: a frame then asks for its
+// format once, and not at each of its slots.
+#[inline(always)]
 pub fn fits(format: usize, slot: usize, xs: &[u8]) -> bool
     ensures { result ≡ (leb format 3 && eqb (part_verdict format slot xs.now 0).number 0) }
 {

@@ -1,7 +1,7 @@
 // How long each run is that a mapper is lent: docs/RULES.md, 'Lengths of runs'. Runs are counted in the order in which the mapper tells refusal 3 of them, from 0 on.
 #![tactic(auto)]
 
-ghost use Rattle.std.specs.Prelude.{[], ◌∷◌, ◌≤◌, ◌*◌};
+ghost use Rattle.std.specs.Prelude.{[], ◌∷◌, ◌≤◌, ◌*◌, replicate};
 ghost use Rattle.run.specs.Verdicts.{done};
 ghost use Rattle.dpch.specs.Compressed.{format_in};
 ghost use Rattle.dpch.specs.Heads.{frame_head};
@@ -20,6 +20,14 @@ fn tell(run: usize, lengths: &[usize]) -> Result<usize, Refusal>
 {
     require(run < lengths.len(), Reason::Range, 0)?;
     Ok(lengths[run])
+}
+
+// .. of so many runs that are alike: no list is looked into.
+fn tell_alike(run: usize, count: usize, length: usize) -> Result<usize, Refusal>
+    ensures { Told done (replicate count length) run (length_of result) }
+{
+    require(run < count, Reason::Range, 0)?;
+    Ok(length)
 }
 
 // .. of a frame of which so many slots are transmitted: three of a slot's runs, the third of all fifteen slots, and the commands.
@@ -70,7 +78,7 @@ pub fn of_dpdch(format: usize, run: usize) -> Result<usize, Refusal>
 {
     check_frame_head(6, format, &[])?;
     let n = dpdch::size_of(format);
-    tell(run, &[n, n])
+    tell_alike(run, 2, n)
 }
 
 // A frame of it.
@@ -79,7 +87,7 @@ pub fn of_dpdch_frame(format: usize, run: usize) -> Result<usize, Refusal>
 {
     check_frame_head(6, format, &[])?;
     let frame = 15 * dpdch::size_of(format);
-    tell(run, &[frame, frame])
+    tell_alike(run, 2, frame)
 }
 
 // A slot of the uplink DPCCH.

@@ -6,7 +6,7 @@ use mathlib.Core.List.{List}
 use Prim.Native.Nat.{ℕ, ◌+◌, ◌-◌, ◌*◌, ◌/◌, ◌≤◌, ◌<◌}
 use native.Mathlib.Nat.{add-zero}
 use native.Mathlib.Omega.{arith}
-use borrow.Author.Tests.{lt-ltb, le-ltb, ltb-true, ltb-false, eqb-true, eqb-false, eq-eqb}
+use borrow.Author.Tests.{lt-ltb, le-ltb, le-leb, lt-leb, ltb-true, ltb-false, eqb-true, eqb-false, eq-eqb}
 use lib.Dec.{eqb, ltb, leb}
 use lib.ListN.{length, get_or, set, take, drop, replicate, length-set, get_or-replicate}
 use lib.Seq.{length-take-le, get_or-take, ext_get_or, get_or-set_same, get_or-set_other}
@@ -14,8 +14,8 @@ use Rattle.run.specs.Digits.{dtx}
 use Rattle.run.specs.First.{first_bad, all, Every, at_most, is_at, is_unlike, like_first, agree}
 use Rattle.run.specs.Verdicts.{done}
 use Rattle.run.proofs.Chain.{or_else_pass, unless_pass, each_pass, leaves_done, number_0}
-use Rattle.run.proofs.Places.{unlike_first, other_first, found_below}
-use Rattle.std.specs.Prelude.{Option, Some, None}
+use Rattle.run.proofs.Places.{above_first, unlike_first, other_first, found_below}
+use Rattle.std.specs.Prelude.{Option, Some, None, is_some}
 use Rattle.std.specs.Option.{unwrap_or}
 use Rattle.std.specs.List.{position}
 use Rattle.run.proofs.First.{no_diff, first_in_part, part_passes, first_in_last}
@@ -217,3 +217,16 @@ given_read {np} {frame} {indicators} {after} ok long few g =
       verdict_is = sym v;
       indicators_is = sym ((read_exact np frame ok long).hands_back after g) ∙ sym (leaves_done _ _ _ (number_0 v));
     }
+
+-- ---- a scan that finds no digit above 1 in a run of n
+pub none_above : (n : ℕ) (s : List ℕ) {found : Option ℕ} {r : Bool} → length s ≡ n → is_some found ≡ not r → found ≡ position (ltb 1) s → r ≡ (leb n (length s) && all n (at_most 1 s))
+none_above n s {found} {r} long told e =
+    rw (sym long, le-leb (length s) (length s) (omega arith)) (turned r told ∙ side found (above_first 1 s e) (λ i is. found_below (ltb 1) s i e is))
+  where
+    turned : (b : Bool) {a : Bool} → a ≡ not b → b ≡ not a
+    turned true h = rw h
+    turned false h = rw h
+
+    side : (o : Option ℕ) → unwrap_or o (length s) ≡ first_bad (at_most 1 s) (length s) → ((i : ℕ) → o ≡ Some i → i < length s) → not (is_some o) ≡ all (length s) (at_most 1 s)
+    side None p below = sym (le-leb _ _ (omega (arith, p)))
+    side (Some i) p below = let l = below i refl in sym (lt-leb _ _ (omega (arith, p)))

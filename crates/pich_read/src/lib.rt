@@ -1,10 +1,10 @@
 // The paging indicator channel, read (rule, promises and theorems are those of the crate `pich`): docs/RULES.md, 'PICH'; TS 25.211, 5.3.3.10.
 #![tactic(auto)]
 
-ghost use Rattle.std.specs.Prelude.{◌≡◌, true, false, ℕ, ◌-◌, ◌*◌, ◌/◌, ◌%◌, ◌<◌, length, get_or};
+ghost use Rattle.std.specs.Prelude.{◌≡◌, true, false, ℕ, ◌-◌, ◌*◌, ◌/◌, ◌%◌, ◌<◌, length, get_or, ◌&&◌, leb};
 ghost use Rattle.std.specs.Option.{unwrap_or};
 ghost use Rattle.run.specs.Answers.{verdict_of};
-ghost use Rattle.run.specs.First.{first_bad};
+ghost use Rattle.run.specs.First.{first_bad, all, at_most};
 ghost use Rattle.pich.specs.Rule.{is_np, width, indicators_in};
 ghost use Rattle.pich.specs.Outcome.{stands, read_head, read_verdict, Read};
 ghost use Rattle.pich.specs.Exact.{Gives};
@@ -98,12 +98,22 @@ fn halve(run: &[u8], half: &mut [u8]) -> bool
     good
 }
 
+// Whether what was found is 0 and 1: a look whose length is a number, but of 72 digits, of which the compiler would make one of shuffles; there a pass of any length is quicker.
+fn are_bits<const NP: usize>(found: &[u8; NP]) -> bool
+    ensures { result ≡ (leb NP (length found.now) && all NP (at_most 1 found.now)) }
+{
+    if NP == 72 {
+        return scan::above(found, 1).is_none();
+    }
+    scan::all_at_most(found, 1, NP)
+}
+
 // Where what was found is 0 and 1, and the tail is DTX, it gives the frame, and is kept.
 fn keep<const NP: usize>(frame: &[u8], found: &[u8; NP], indicators: &mut [u8]) -> bool
     requires { (is_np NP ≡ true) × (length frame.now ≡ 300) × (length indicators.old ≡ NP) × ((k : ℕ) → k < 288 → get_or frame.now k 0 ≡ get_or found.now (k / width NP) 0) }
     ensures { (result ≡ true → Gives NP indicators.new frame.now) × (result ≡ false → indicators.new ≡ indicators.old) }
 {
-    if !scan::all_at_most(found, 1, NP) {
+    if !are_bits(found) {
         return false;
     }
     if !scan_diff::same_front(&frame[288..300], &[DTX; 12], 12) {

@@ -4,8 +4,11 @@ use Prim.Native.Nat.{◌<◌}
 use native.Mathlib.Omega.{arith}
 use Rattle.aich.proofs.Folding.{first_of_four, second_of_four, third_of_four, fourth_of_four}
 use Rattle.aich.proofs.Folded.{first_kept, second_kept, third_kept, fourth_kept}
-use Rattle.aich.proofs.Square.{column_small, turned_next}
+use Rattle.aich.proofs.Square.{column_small, turned_none, turned_next}
 use Rattle.aich.proofs.columns.Goals as goal
+
+pub loop-k-init : goal.loop-k-init
+loop-k-init c = turned_none _ _ c.requires.2
 
 pub loop-k-preserved : goal.loop-k-preserved
 loop-k-preserved c =

@@ -11,4 +11,4 @@ returns-in_err-check_frame_head c = head_refused _ _ _ _ _ c.from_residual.ensur
 pub returns : goal.returns
 unfolding dpdch_lengths_of
 returns c =
-    rw (one-mul (dpdch_size c.args.format)) (head_passed _ c.in_ok-check_frame_head.ensures (rw (c.size_of-n.ensures) at c.tell.ensures))
+    rw (one-mul (dpdch_size c.args.format)) (head_passed _ c.in_ok-check_frame_head.ensures (rw (c.size_of-n.ensures) at c.tell_alike.ensures))

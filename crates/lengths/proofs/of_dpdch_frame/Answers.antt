@@ -14,4 +14,4 @@ overflow_mul-frame c = rw c.size_of-frame.ensures (let h = slots_small 15 c.args
 pub returns : goal.returns
 unfolding dpdch_lengths_of
 returns c =
-    head_passed _ c.in_ok-check_frame_head.ensures (rw (c.size_of-frame.ensures) at c.tell.ensures)
+    head_passed _ c.in_ok-check_frame_head.ensures (rw (c.size_of-frame.ensures) at c.tell_alike.ensures)

@@ -9,6 +9,6 @@ pub returns : goal.returns
 returns g c = (
   λ e.
       rw c.copy_from_slice.ensures.after
-      (found_given _ _ _ c.requires.0 c.requires.1 c.told-found c.requires.3 c.all_at_most.ensures c.if-not-all_at_most.false c.same_front.ensures c.if-not-same_front.false),
+      (found_given _ _ _ c.requires.0 c.requires.1 c.told-found c.requires.3 c.are_bits.ensures c.if-not-are_bits.false c.same_front.ensures c.if-not-same_front.false),
   λ e. absurd (let z : ◌≡◌ {A = ℕ} 0 1 = cc in omega arith),
 )
