@@ -10,7 +10,9 @@ MADE = {"target", "out", ".git", "__pycache__"}
 # A declaration of antt that other files can see. In a file of specs/ or proofs/ one that is indented may be a field of a record.
 DECLARED = re.compile(r"^( *)(?:unfoldable |abbrev )*pub (?:record |data )?([^\s:(){}]+)", re.M)
 ITEM = re.compile(r"^(?:pub(?:\(crate\))? )?(?:extern \"C\" )?(?:fn|struct|enum|const|mod) (\w+)", re.M)
-PUBLIC = re.compile(r"^pub (extern \"C\" )?fn (\w+)", re.M)
+# A function that other crates can call: at the margin, or a method in an `impl` at it. Who may not call it is told by `pub(crate)`.
+PUBLIC = re.compile(r"^(?: {4})?pub (extern \"C\" )?fn (\w+)", re.M)
+METHOD = re.compile(r"^ {4}pub(?:\(crate\))? fn (\w+)", re.M)
 
 
 @functools.cache
@@ -130,11 +132,11 @@ class Tree:
 
     @functools.cached_property
     def items(self):
-        """Functions, structs, enums, constants and modules by their full names: crate, module where there is one, item."""
+        """Functions, structs, enums, constants and modules by their full names: crate, module where there is one, item. A method stands in the module of its type."""
         def inside(path):
             module = pathlib.PurePosixPath(path).stem
             before = path.split("/")[1] + ("::" if module in ("lib", "main") else f"::{module}::")
-            return {before + name for name in ITEM.findall(self.text(path))}
+            return {before + name for kind in (ITEM, METHOD) for name in kind.findall(self.text(path))}
         return self.by_crate("crates/*/src/*.rt", inside)
 
     @functools.cached_property

@@ -48,7 +48,7 @@ def blank(match):
 
 def pages(tree):
     # The pages on the move from the older kit and on the older forms name what is gone.
-    told = [page for page in tree.under("docs/*.md") if page not in ("docs/PORT.md", "docs/DESIGN-PASS.md")]
+    told = [page for page in tree.under("docs/*.md") if page not in ("docs/PORT.md", "docs/DESIGN-PASS.md", "docs/LOOK-BACK.md")]
     return ["README.md", "CONTRIBUTING.md", "python/README.md", *told]
 
 

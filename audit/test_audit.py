@@ -24,6 +24,8 @@ PLANTS = (
     ("a theorem of another crate", "docs/DEMAND3.md", "`rows` of `signature`", "`rows` of `pich`", "rows"),
     ("a theorem of another file", "docs/INTERFACE.md", "`unpacks` in `crates/packed/", "`packs` in `crates/packed/", "packs"),
     ("a theorem of a row", "docs/PROMISES.md", "`frame_filled` (each", "`read_exakt` (each", "read_exakt"),
+    ("a public function without a row", "crates/bank_find/src/lib.rt", "\nfn start_of(", "\npub fn start_of(", "bank_find::start_of: no row"),
+    ("a public method without a row", "crates/run/src/refusal.rt", "    // The number that C is told.\n", "    pub fn told(self) -> usize {\n        0\n    }\n\n    // The number that C is told.\n", "run::refusal::told: no row"),
     ("the one outcome of a part", "docs/PROMISES.md", "how many digits it has; `parts_once`", "how many digits it has", "bank_find::held"),
     ("a definition", "docs/DEMAND3.md", "`values_of`", "`values_for`", "values_for"),
     ("an edit", "docs/DEMAND3.md", "`gains_after_12`", "`wrong_partner`", "wrong_partner"),
